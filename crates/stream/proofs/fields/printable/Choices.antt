@@ -1,0 +1,8 @@
+use mathlib.Core.Path.{_≡_}
+use lib.ListN.{drop}
+use Rattle.stream.specs.Steps.{every-printable}
+use Rattle.stream.proofs.fields.printable.Given as given
+
+-- what is left decides
+abbrev pub Inv-loop-b : given.InvT-loop-b
+Inv-loop-b l = every-printable (drop (l .b-index) (l .name)) ≡ every-printable (l .name)
