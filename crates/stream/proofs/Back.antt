@@ -10,10 +10,11 @@ use Rattle.std.specs.shelf.Lists.{All}
 use Rattle.std.proofs.shelf.Elements.{all-take, all-drop}
 use Rattle.std.proofs.shelf.Lists.{take-append-drop, length-take-le, length-drop, nil-from-length, drop-drop}
 use Rattle.std.proofs.shelf.Tests.{ltb-false, eqb-true, eqb-false, cases-bool, and-parts, cond-true, cond-false}
-use Rattle.stream.specs.Le.{le, le-bytes, field}
+use Rattle.stream.specs.Bytes.{le, le-bytes, field}
 use Rattle.stream.specs.Rule.{late-rule}
 use Rattle.stream.specs.Steps.{Pos, every-printable, name-by, name-of, size-by, size-of, range-by, range-of, payload-of, record-of, step-of}
-use Rattle.stream.specs.Verdict.{Content, from-name, to-name, image-size, data-at, zeros-at, encoded, encodings, encoded-stream, start, verdict, reads, onward, taken, before, header, same}
+use Rattle.stream.specs.Records.{Content, from-name, to-name, image-size, data-at, zeros-at, encoded, encodings, encoded-stream, header}
+use Rattle.stream.specs.Verdict.{start, verdict, reads, onward, taken, before, same}
 use Rattle.stream.specs.Wellformed.{Good-name, Good-range, Good, rule-of, moved, Well-formed, Bytes, Accepted-is-stream}
 use Rattle.stream.specs.declared.kinds.State.{State}
 use Rattle.stream.specs.declared.kinds.State.the-variants.{Meta, Data}

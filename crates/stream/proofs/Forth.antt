@@ -8,9 +8,10 @@ use lib.Dec.{eqb, ltb}
 use Rattle.std.proofs.shelf.Ways.{tells}
 use Rattle.std.proofs.shelf.Lists.{drop-drop, take-at, drop-at}
 use Rattle.std.proofs.shelf.Tests.{lt-ltb, le-ltb, ne-eqb, cond-true, cond-false}
-use Rattle.stream.specs.Le.{le, le-bytes, field}
+use Rattle.stream.specs.Bytes.{le, le-bytes, field}
 use Rattle.stream.specs.Steps.{Pos, every-printable, name-by, name-of, size-by, size-of, range-by, range-of, payload-of, record-of, step-of}
-use Rattle.stream.specs.Verdict.{Content, from-name, to-name, image-size, data-at, zeros-at, encoded, encodings, encoded-stream, start, verdict, reads, onward, taken, before, header, same}
+use Rattle.stream.specs.Records.{Content, from-name, to-name, image-size, data-at, zeros-at, encoded, encodings, encoded-stream, header}
+use Rattle.stream.specs.Verdict.{start, verdict, reads, onward, taken, before, same}
 use Rattle.stream.specs.Wellformed.{Good-name, Good-range, Good, rule-of, moved, Well-formed, Reads-back}
 use Rattle.stream.specs.declared.kinds.State.{State}
 use Rattle.stream.specs.declared.kinds.Record.{Record}

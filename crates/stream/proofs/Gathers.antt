@@ -4,9 +4,10 @@ use Prim.Native.Nat.{ℕ, suc, _+_, _-_, _<_, _≤_}
 use native.Mathlib.Omega.{arith}
 use lib.ListN.{length, drop, take, set}
 use Rattle.std.proofs.shelf.Lists.{length-take-le, length-drop, take-more-set}
-use Rattle.stream.specs.Le.{field}
+use Rattle.stream.specs.Bytes.{field}
 use Rattle.stream.specs.Steps.{Pos, Lies}
-use Rattle.stream.specs.Verdict.{Content, from-name, to-name, image-size, data-at, zeros-at, encoded, reads, onward, taken, before}
+use Rattle.stream.specs.Records.{Content, from-name, to-name, image-size, data-at, zeros-at, encoded}
+use Rattle.stream.specs.Verdict.{reads, onward, taken, before}
 use Rattle.stream.specs.Runs.{Gathered, span, zero-run, payload-run, noted, gathered, gathered-from, gathered-of, noted-by, runs-by, Room}
 use Rattle.stream.specs.declared.kinds.Record.{Record}
 use Rattle.stream.specs.declared.kinds.Record.the-variants.{From, To, Size, Write, Zero, End}

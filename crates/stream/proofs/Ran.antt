@@ -6,7 +6,8 @@ use lib.ListN.{length, drop}
 use Rattle.std.proofs.shelf.Lists.{drop-drop}
 use Rattle.std.proofs.shelf.Tests.{lt-ltb, le-ltb}
 use Rattle.stream.specs.Steps.{Pos, step-of, answer, after, err-by, fault-at}
-use Rattle.stream.specs.Verdict.{Content, reads, onward, taken, before, checked}
+use Rattle.stream.specs.Records.{Content}
+use Rattle.stream.specs.Verdict.{reads, onward, taken, before, checked}
 use Rattle.stream.specs.declared.kinds.Record.{Record}
 use Rattle.stream.specs.declared.kinds.Record.the-variants.{From, To, Size, Write, Zero, End}
 use Rattle.fault.specs.Fault.{fault}

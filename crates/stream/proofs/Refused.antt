@@ -10,10 +10,11 @@ use Rattle.std.specs.shelf.Lists.{All}
 use Rattle.std.proofs.shelf.Elements.{all-take, all-drop}
 use Rattle.std.proofs.shelf.Lists.{take-append-drop, length-take-le, length-drop, nil-from-length, drop-drop, take-at, drop-at}
 use Rattle.std.proofs.shelf.Tests.{ltb-false, eqb-true, eqb-false, ltb-true, lt-ltb, eq-eqb, and-from, cases-bool, true≢false, and-parts, cond-true, cond-false}
-use Rattle.stream.specs.Le.{le, le-bytes, field}
+use Rattle.stream.specs.Bytes.{le, le-bytes, field}
 use Rattle.stream.specs.Rule.{late-rule}
 use Rattle.stream.specs.Steps.{fault-at, Pos, every-printable, name-by, name-of, size-by, size-of, range-by, range-of, payload-of, record-of, step-of}
-use Rattle.stream.specs.Verdict.{Content, from-name, to-name, image-size, data-at, zeros-at, encoded, encodings, encoded-stream, start, verdict, reads, onward, taken, before, header, same, checked}
+use Rattle.stream.specs.Records.{Content, from-name, to-name, image-size, data-at, zeros-at, encoded, encodings, encoded-stream, header}
+use Rattle.stream.specs.Verdict.{start, verdict, reads, onward, taken, before, same, checked}
 use Rattle.stream.specs.Wellformed.{Good-name, Good-range, Good, rule-of, moved, Bytes, Leads, Wrong, Stops, Refusal, Refused-exactly}
 use Rattle.stream.specs.declared.kinds.State.{State}
 use Rattle.stream.specs.declared.kinds.State.the-variants.{Meta, Data}

@@ -7,7 +7,8 @@ use lib.ListN.{length}
 use Rattle.std.specs.shelf.Lists.{All}
 use Rattle.stream.specs.Rule.{meta, from-rule, to-rule, size-rule, late-rule}
 use Rattle.stream.specs.Steps.{Pos}
-use Rattle.stream.specs.Verdict.{Content, from-name, to-name, image-size, data-at, zeros-at, start, encoded-stream, verdict, checked}
+use Rattle.stream.specs.Records.{Content, from-name, to-name, image-size, data-at, zeros-at, encoded-stream}
+use Rattle.stream.specs.Verdict.{start, verdict, checked}
 use Rattle.stream.specs.Wellformed.{Good-range, Well-formed, moved, Bytes}
 use Rattle.stream.specs.Places.{size-in, Tells}
 use Rattle.stream.specs.Runs.{Gathered, gathered, gathered-from, gathered-of, none, seen}

@@ -4,8 +4,8 @@ use Prim.Native.Nat.{ℕ, suc, _+_, _-_, _<_, _≤_}
 use native.Mathlib.Omega.{arith}
 use lib.ListN.{length, drop, take, length-append}
 use Rattle.std.proofs.shelf.Lists.{drop-drop, drop-at, take-at, map-push, append-nil}
-use Rattle.stream.specs.Le.{le-bytes, field}
-use Rattle.stream.specs.Verdict.{Content, from-name, to-name, image-size, data-at, zeros-at, encoded, encodings, encoded-stream, header}
+use Rattle.stream.specs.Bytes.{le-bytes, field}
+use Rattle.stream.specs.Records.{Content, from-name, to-name, image-size, data-at, zeros-at, encoded, encodings, encoded-stream, header}
 use Rattle.stream.specs.Runs.{Gathered, noted, gathered, none, zero-run, payload-run}
 use Rattle.stream.specs.Places.{held, named, data-of, from-of, to-of, size-in, Tells, Places-tell}
 

@@ -1,8 +1,8 @@
 use mathlib.Core.Path.{_≡_}
 use mathlib.Core.List.{List, [], _∷_, map}
 use Prim.Native.Nat.{ℕ}
-use Rattle.stream.specs.Le.{field}
-use Rattle.stream.specs.Verdict.{Content, from-name, to-name, image-size, data-at, zeros-at, encoded-stream}
+use Rattle.stream.specs.Bytes.{field}
+use Rattle.stream.specs.Records.{Content, from-name, to-name, image-size, data-at, zeros-at, encoded-stream}
 use Rattle.stream.specs.Runs.{Gathered, gathered, none}
 use Rattle.stream.specs.declared.kinds.Run.{Run}
 use Rattle.stream.specs.declared.kinds.Kind.{Kind}

@@ -3,7 +3,7 @@ use mathlib.Core.List.{List, [], _∷_, _++_}
 use Prim.Native.Nat.{ℕ, _+_, _<_, _≤_}
 use lib.ListN.{length, take, set}
 use Rattle.stream.specs.Steps.{Pos}
-use Rattle.stream.specs.Verdict.{Content, from-name, to-name, image-size, data-at, zeros-at, encoded}
+use Rattle.stream.specs.Records.{Content, from-name, to-name, image-size, data-at, zeros-at, encoded}
 use Rattle.stream.specs.declared.kinds.Record.{Record}
 use Rattle.stream.specs.declared.kinds.Record.the-variants.{From, To, Size, Write, Zero, End}
 use Rattle.stream.specs.declared.kinds.Run.{Run}

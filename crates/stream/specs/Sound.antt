@@ -3,7 +3,8 @@ use mathlib.Core.List.{List, [], _∷_, _++_}
 use Prim.Native.Nat.{ℕ, suc, _+_, _^_, _≤_}
 use lib.ListN.{length}
 use Rattle.std.specs.shelf.Lists.{All}
-use Rattle.stream.specs.Verdict.{Content, from-name, to-name, image-size, data-at, zeros-at, start, encoded-stream, verdict, checked}
+use Rattle.stream.specs.Records.{Content, from-name, to-name, image-size, data-at, zeros-at, encoded-stream}
+use Rattle.stream.specs.Verdict.{start, verdict, checked}
 use Rattle.stream.specs.Wellformed.{Good-name, Well-formed, Bytes, Refusal}
 use Rattle.stream.specs.Places.{size-in, Tells}
 use Rattle.stream.specs.Runs.{gathered-of}

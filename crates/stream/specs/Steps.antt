@@ -4,7 +4,7 @@ use mathlib.Core.Path.{_≡_}
 use Prim.Native.Nat.{ℕ, _+_, _*_, _^_, _<_, _≤_}
 use lib.ListN.{length, getD, take, drop}
 use lib.Dec.{eqb, ltb, leb}
-use Rattle.stream.specs.Le.{le, field}
+use Rattle.stream.specs.Bytes.{le, field}
 use Rattle.stream.specs.Rule.{from-rule, to-rule, size-rule, late-rule}
 use Rattle.stream.specs.declared.kinds.State.{State}
 use Rattle.stream.specs.declared.kinds.Record.{Record}

@@ -1,9 +1,11 @@
+-- Reading: the records of a stream, or its first fault. Rests on the checks of one record.
 use mathlib.Core.List.{List, [], _∷_, _++_}
 use mathlib.Core.Bool.{Bool, true, false, cond, _&&_}
 use Prim.Native.Nat.{ℕ, zero, suc, _+_, _-_}
 use lib.ListN.{length, take, drop}
 use lib.Dec.{eqb, ltb}
-use Rattle.stream.specs.Le.{le-bytes, field}
+use Rattle.stream.specs.Bytes.{field}
+use Rattle.stream.specs.Records.{Content, from-name, to-name, image-size, data-at, zeros-at, header}
 use Rattle.stream.specs.Steps.{Pos, step-of, fault-at, err-by}
 use Rattle.stream.specs.Rule.{meta}
 use Rattle.stream.specs.declared.kinds.Record.{Record}
@@ -14,33 +16,6 @@ use Rattle.fault.specs.declared.kinds.Cause.{Cause}
 use Rattle.fault.specs.declared.kinds.Cause.the-variants as causes
 use Rattle.std.specs.declared.result.Result.{Result}
 use Rattle.std.specs.declared.result.Result.the-variants.{Ok, Err}
-
--- a record of a stream with what it says
-pub data Content : Type 0 where
-  from-name : List ℕ → Content
-  to-name : List ℕ → Content
-  image-size : ℕ → Content
-  data-at : ℕ → List ℕ → Content
-  zeros-at : ℕ → ℕ → Content
-
--- its bytes
-abbrev pub encoded : Content → List ℕ
-encoded (from-name name) = 102 ∷ (le-bytes 4 (length name) ++ name)
-encoded (to-name name) = 116 ∷ (le-bytes 4 (length name) ++ name)
-encoded (image-size n) = 115 ∷ le-bytes 8 n
-encoded (data-at offset bytes) = 119 ∷ (le-bytes 8 offset ++ (le-bytes 8 (length bytes) ++ bytes))
-encoded (zeros-at offset n) = 122 ∷ (le-bytes 8 offset ++ le-bytes 8 n)
-
--- the bytes of a list of records, and of a whole stream
-abbrev pub encodings : List Content → List ℕ
-encodings [] = []
-encodings (c ∷ cs) = encoded c ++ encodings cs
-
-abbrev pub header : List ℕ
-header = 114 ∷ 98 ∷ 100 ∷ 32 ∷ 100 ∷ 105 ∷ 102 ∷ 102 ∷ 32 ∷ 118 ∷ 49 ∷ 10 ∷ []
-
-abbrev pub encoded-stream : List Content → List ℕ
-encoded-stream cs = header ++ (encodings cs ++ (101 ∷ []))
 
 -- what follows a record, with the record before it
 abbrev pub before : Content → Result (List Content) Fault → Result (List Content) Fault

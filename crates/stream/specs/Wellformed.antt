@@ -7,7 +7,8 @@ use lib.ListN.{length, take}
 use Rattle.std.specs.shelf.Lists.{All}
 use Rattle.stream.specs.Rule.{from-rule, to-rule, size-rule, late-rule}
 use Rattle.stream.specs.Steps.{Pos, every-printable, step-of, fault-at}
-use Rattle.stream.specs.Verdict.{Content, from-name, to-name, image-size, data-at, zeros-at, encodings, encoded-stream, start, verdict, header}
+use Rattle.stream.specs.Records.{Content, from-name, to-name, image-size, data-at, zeros-at, encodings, encoded-stream, header}
+use Rattle.stream.specs.Verdict.{start, verdict}
 use Rattle.stream.specs.declared.kinds.State.{State}
 use Rattle.stream.specs.declared.kinds.State.the-variants.{Data}
 use Rattle.fault.specs.Fault.{fault}

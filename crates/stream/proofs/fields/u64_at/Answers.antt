@@ -1,5 +1,5 @@
 use native.Mathlib.Omega.{arith}
-use Rattle.stream.proofs.Bytes.{le-more, le-next}
+use Rattle.stream.proofs.Numbers.{le-more, le-next}
 use Rattle.stream.proofs.fields.u64_at.Needs as need
 
 pub returns : need.returns
