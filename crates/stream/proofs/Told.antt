@@ -5,8 +5,9 @@ use native.Mathlib.Omega.{arith}
 use lib.ListN.{length, drop, take, length-append}
 use Rattle.std.proofs.shelf.Lists.{drop-drop, drop-at, take-at, map-push, append-nil}
 use Rattle.stream.specs.Bytes.{le-bytes, field}
+use Rattle.overlay.specs.declared.payloads.Side.{Side}
 use Rattle.stream.specs.Records.{Content, from-name, to-name, image-size, data-at, zeros-at, encoded, encodings, encoded-stream, header}
-use Rattle.stream.specs.Runs.{Gathered, noted, gathered, none, zero-run, payload-run}
+use Rattle.stream.specs.Gathered.{Gathered, noted, gathered, none, zero-run, payload-run}
 use Rattle.stream.specs.Places.{held, named, data-of, from-of, to-of, size-in, Tells, Places-tell}
 
 -- a field behind a first part
@@ -15,7 +16,7 @@ field-behind xs pre rest place i n e l =
     ap (take n) (sym (drop-drop i place xs) ∙ ap (drop i) (ap (drop place) e ∙ drop-at pre rest place (sym l)))
 
 -- the records from a place on, with what was gathered before
-module _ (xs tail : List ℕ) where
+module _ (side : Side) (xs tail : List ℕ) where
   here : (pre : List ℕ) (c : Content) (cs : List Content) → xs ≡ pre ++ (encodings (c ∷ cs) ++ tail) → xs ≡ pre ++ (encoded c ++ (encodings cs ++ tail))
   here pre c cs e = e ∙ ap (λ t. pre ++ t) (append-assoc (encoded c) (encodings cs) tail)
 
@@ -30,14 +31,14 @@ module _ (xs tail : List ℕ) where
   name-here pre t name more place e l = field-behind xs pre _ place 5 (length name) e l ∙ take-at name more (length name) refl
 
   runs-told : (cs : List Content) (pre : List ℕ) (place : ℕ) (g : Gathered) → xs ≡ pre ++ (encodings cs ++ tail) → place ≡ length pre
-      → map (held xs) (gathered g place cs .runs) ≡ map (held xs) (g .runs) ++ data-of cs
+      → map (held xs) (gathered side g place cs .runs) ≡ map (held xs) (g .runs) ++ data-of cs
   runs-told [] pre place g e l = sym (append-nil (map (held xs) (g .runs)))
   runs-told (from-name name ∷ cs) pre place g e l = runs-told cs (pre ++ encoded (from-name name)) _ _ (next pre (from-name name) cs e) (on pre (from-name name) place l)
   runs-told (to-name name ∷ cs) pre place g e l = runs-told cs (pre ++ encoded (to-name name)) _ _ (next pre (to-name name) cs e) (on pre (to-name name) place l)
   runs-told (image-size n ∷ cs) pre place g e l = runs-told cs (pre ++ encoded (image-size n)) _ _ (next pre (image-size n) cs e) (on pre (image-size n) place l)
   runs-told (data-at o bytes ∷ cs) pre place g e l =
       let c = data-at o bytes in
-      let r = payload-run o (length bytes) (place + 17) in
+      let r = payload-run side o (length bytes) (place + 17) in
       let f = field-behind xs pre _ place 17 (length bytes) (here pre c cs e) l ∙ take-at bytes (encodings cs ++ tail) (length bytes) refl in
       runs-told cs (pre ++ encoded c) _ _ (next pre c cs e) (on pre c place l)
       ∙ ap (λ t. t ++ data-of cs) (map-push (held xs) (g .runs) r)
@@ -51,7 +52,7 @@ module _ (xs tail : List ℕ) where
       ∙ append-assoc (map (held xs) (g .runs)) (held xs r ∷ []) (data-of cs)
 
   from-told : (cs : List Content) (pre : List ℕ) (place : ℕ) (g : Gathered) (name : List ℕ) → xs ≡ pre ++ (encodings cs ++ tail) → place ≡ length pre
-      → named xs (g .from) ≡ name → named xs (gathered g place cs .from) ≡ from-of name cs
+      → named xs (g .from) ≡ name → named xs (gathered side g place cs .from) ≡ from-of name cs
   from-told [] pre place g name e l h = h
   from-told (from-name n ∷ cs) pre place g name e l h =
       from-told cs (pre ++ encoded (from-name n)) _ _ n (next pre (from-name n) cs e) (on pre (from-name n) place l) (name-here pre 102 n (encodings cs ++ tail) place (here pre (from-name n) cs e) l)
@@ -61,7 +62,7 @@ module _ (xs tail : List ℕ) where
   from-told (zeros-at o n ∷ cs) pre place g name e l h = from-told cs (pre ++ encoded (zeros-at o n)) _ _ name (next pre (zeros-at o n) cs e) (on pre (zeros-at o n) place l) h
 
   to-told : (cs : List Content) (pre : List ℕ) (place : ℕ) (g : Gathered) (name : List ℕ) → xs ≡ pre ++ (encodings cs ++ tail) → place ≡ length pre
-      → named xs (g .to) ≡ name → named xs (gathered g place cs .to) ≡ to-of name cs
+      → named xs (g .to) ≡ name → named xs (gathered side g place cs .to) ≡ to-of name cs
   to-told [] pre place g name e l h = h
   to-told (from-name n ∷ cs) pre place g name e l h = to-told cs (pre ++ encoded (from-name n)) _ _ name (next pre (from-name n) cs e) (on pre (from-name n) place l) h
   to-told (to-name n ∷ cs) pre place g name e l h =
@@ -70,21 +71,21 @@ module _ (xs tail : List ℕ) where
   to-told (data-at o n ∷ cs) pre place g name e l h = to-told cs (pre ++ encoded (data-at o n)) _ _ name (next pre (data-at o n) cs e) (on pre (data-at o n) place l) h
   to-told (zeros-at o n ∷ cs) pre place g name e l h = to-told cs (pre ++ encoded (zeros-at o n)) _ _ name (next pre (zeros-at o n) cs e) (on pre (zeros-at o n) place l) h
 
-size-told : (cs : List Content) (place : ℕ) (g : Gathered) → gathered g place cs .size ≡ size-in (g .size) cs
-size-told [] place g = refl
-size-told (from-name n ∷ cs) place g = size-told cs _ _
-size-told (to-name n ∷ cs) place g = size-told cs _ _
-size-told (image-size n ∷ cs) place g = size-told cs _ _
-size-told (data-at o n ∷ cs) place g = size-told cs _ _
-size-told (zeros-at o n ∷ cs) place g = size-told cs _ _
+size-told : (side : Side) (cs : List Content) (place : ℕ) (g : Gathered) → gathered side g place cs .size ≡ size-in (g .size) cs
+size-told side [] place g = refl
+size-told side (from-name n ∷ cs) place g = size-told side cs _ _
+size-told side (to-name n ∷ cs) place g = size-told side cs _ _
+size-told side (image-size n ∷ cs) place g = size-told side cs _ _
+size-told side (data-at o n ∷ cs) place g = size-told side cs _ _
+size-told side (zeros-at o n ∷ cs) place g = size-told side cs _ _
 
 pub places-tell : Places-tell
-places-tell cs =
+places-tell side cs =
     let xs = encoded-stream cs in
     let tail : List ℕ = 101 ∷ [] in
     record {
-      runs = runs-told xs tail cs header 12 none refl refl;
-      from = from-told xs tail cs header 12 none [] refl refl refl;
-      to = to-told xs tail cs header 12 none [] refl refl refl;
-      size = size-told cs 12 none;
+      runs = runs-told side xs tail cs header 12 none refl refl;
+      from = from-told side xs tail cs header 12 none [] refl refl refl;
+      to = to-told side xs tail cs header 12 none [] refl refl refl;
+      size = size-told side cs 12 none;
     }

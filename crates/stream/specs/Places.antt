@@ -1,21 +1,23 @@
+-- What a list of records says, and that what was gathered tells it: the runs and spans with the bytes at their places. Rests on Gathered.
 use mathlib.Core.Path.{_≡_}
 use mathlib.Core.List.{List, [], _∷_, map}
 use Prim.Native.Nat.{ℕ}
 use Rattle.stream.specs.Bytes.{field}
 use Rattle.stream.specs.Records.{Content, from-name, to-name, image-size, data-at, zeros-at, encoded-stream}
-use Rattle.stream.specs.Runs.{Gathered, gathered, none}
-use Rattle.stream.specs.declared.kinds.Run.{Run}
-use Rattle.stream.specs.declared.kinds.Kind.{Kind}
-use Rattle.stream.specs.declared.kinds.Kind.the-variants.{Zeros, Payload}
+use Rattle.stream.specs.Gathered.{Gathered, gathered, none}
+use Rattle.overlay.specs.declared.runs.Run.{Run}
+use Rattle.overlay.specs.declared.payloads.PayloadMark.{PayloadMark}
+use Rattle.overlay.specs.declared.payloads.PayloadMark.the-variants.{Zeroed, Written}
+use Rattle.overlay.specs.declared.payloads.Side.{Side}
 use Rattle.stream.specs.declared.kinds.Span.{Span}
 
 -- the data record that a run stands for, in the bytes of its stream
-abbrev pub held-by : List ℕ → ℕ → ℕ → Kind → Content
-held-by xs offset n Zeros = zeros-at offset n
-held-by xs offset n (Payload place) = data-at offset (field xs place n)
+abbrev pub held-by : List ℕ → ℕ → ℕ → PayloadMark → Content
+held-by xs offset n Zeroed = zeros-at offset n
+held-by xs offset n (Written side place) = data-at offset (field xs place n)
 
-abbrev pub held : List ℕ → Run → Content
-held xs r = held-by xs (r .offset) (r .length) (r .kind)
+abbrev pub held : List ℕ → Run PayloadMark → Content
+held xs r = held-by xs (r .offset) (r .length) (r .mark)
 
 -- the bytes of a name
 abbrev pub named : List ℕ → Span → List ℕ
@@ -63,4 +65,4 @@ pub record Tells (cs : List Content) (xs : List ℕ) (g : Gathered) : Type 0 whe
   pub size : g .size ≡ size-in 0 cs
 
 abbrev pub Places-tell : Type 0
-Places-tell = (cs : List Content) → Tells cs (encoded-stream cs) (gathered none 12 cs)
+Places-tell = (side : Side) (cs : List Content) → Tells cs (encoded-stream cs) (gathered side none 12 cs)

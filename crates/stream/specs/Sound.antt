@@ -7,8 +7,9 @@ use Rattle.stream.specs.Records.{Content, from-name, to-name, image-size, data
 use Rattle.stream.specs.Verdict.{start, verdict, checked}
 use Rattle.stream.specs.Wellformed.{Good-name, Well-formed, Bytes, Refusal}
 use Rattle.stream.specs.Places.{size-in, Tells}
-use Rattle.stream.specs.Runs.{gathered-of}
-use Rattle.stream.specs.declared.kinds.Run.{Run}
+use Rattle.stream.specs.Gathered.{gathered-of}
+use Rattle.overlay.specs.declared.runs.Run.{Run}
+use Rattle.overlay.specs.declared.payloads.PayloadMark.{PayloadMark}
 use Rattle.stream.specs.declared.kinds.Summary.{Summary}
 use Rattle.fault.specs.declared.kinds.Fault.{Fault}
 use Rattle.std.specs.declared.result.Result.{Result}
@@ -88,5 +89,5 @@ pub record Exact (xs : List ℕ) (r : Result (Unit {0}) Fault) : Type 0 where
   pub refusal : (f : Fault) → Refusal xs f → r ≡ Err f
 
 -- a summary with its runs: the stream is that of a sound list of records, and they tell what the list says
-abbrev pub Told : List ℕ → Result Summary Fault → List Run → Type 0
+abbrev pub Told : List ℕ → Result Summary Fault → List (Run PayloadMark) → Type 0
 Told xs r out = (s : Summary) → r ≡ Ok s → (cs : List Content) × Sound cs × (xs ≡ encoded-stream cs) × Tells cs xs (gathered-of s out)

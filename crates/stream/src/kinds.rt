@@ -49,21 +49,6 @@ pub struct Reader<'a> {
     pub(crate) count: u64,
 }
 
-// What a run holds: zeros, or the payload at a place of the stream.
-#[derive(Clone, Copy)]
-pub enum Kind {
-    Zeros,
-    Payload { place: usize },
-}
-
-// A data record: the range of the book, and what it holds.
-#[derive(Clone, Copy)]
-pub struct Run {
-    pub offset: u64,
-    pub length: u64,
-    pub kind: Kind,
-}
-
 // A name by its part of the stream; of length 0 where the stream has none.
 #[derive(Clone, Copy)]
 pub struct Span {

@@ -18,14 +18,12 @@ use fault::Fault;
 mod fields;
 mod kinds;
 mod reader;
-mod runs;
+mod reading;
 
 pub use fields::printable;
-pub use kinds::Kind;
-pub use kinds::Run;
 pub use kinds::Span;
 pub use kinds::Summary;
-pub use runs::read_runs;
+pub use reading::read;
 
 // Reads on to the end of the stream.
 fn run(reader: &mut Reader) -> Result<(), Fault>

@@ -3,25 +3,26 @@ ghost use Prim.Native.Nat.{ℕ, suc, _+_, _-_, _<_, _≤_};
 ghost use lib.ListN.{length};
 ghost use Rattle.stream.specs.Stands.{pos-of, rest-of};
 ghost use Rattle.stream.specs.Verdict.{reads, verdict};
-ghost use Rattle.stream.specs.Runs.{Room, noted-by, runs-by, seen, gathered-from, none};
+ghost use Rattle.stream.specs.Gathered.{Room, noted-by, runs-by, seen, gathered-from, none};
 ghost use Rattle.stream.specs.Sound.{Told};
 use crate::has_header;
-use crate::kinds::Kind;
 use crate::kinds::Reader;
 use crate::kinds::Record;
-use crate::kinds::Run;
 use crate::kinds::Seen;
 use crate::kinds::Span;
 use crate::kinds::State;
 use crate::kinds::Summary;
 use fault::Cause;
 use fault::Fault;
+use overlay::PayloadMark;
+use overlay::Run;
+use overlay::Side;
 
 // The summary with a record; a data record goes into its place among the runs.
-fn note(summary: Summary, out: &mut [Run], record: Record) -> Summary
+fn note(summary: Summary, out: &mut [Run<PayloadMark>], side: Side, record: Record) -> Summary
     requires { ⌜ Room (summary .count) (length (now out)) «record» ⌝ ∗ ⌜ summary .count ≤ 512 ⌝ }
     ensures summary { λ r. ⌜ r ≡ noted-by summary «record» ⌝ }
-    ensures runs { λ _. ⌜ now (out .exit) ≡ runs-by (now (out .entry)) (summary .count) «record» ⌝ }
+    ensures runs { λ _. ⌜ now (out .exit) ≡ runs-by side (now (out .entry)) (summary .count) «record» ⌝ }
 {
     match record {
         Record::From { place, length } => Summary {
@@ -41,7 +42,7 @@ fn note(summary: Summary, out: &mut [Run], record: Record) -> Summary
             out[summary.count] = Run {
                 offset,
                 length,
-                kind: Kind::Payload { place },
+                mark: PayloadMark::Written(side, place as u64),
             };
             Summary {
                 count: summary.count + 1,
@@ -52,7 +53,7 @@ fn note(summary: Summary, out: &mut [Run], record: Record) -> Summary
             out[summary.count] = Run {
                 offset,
                 length,
-                kind: Kind::Zeros,
+                mark: PayloadMark::Zeroed,
             };
             Summary {
                 count: summary.count + 1,
@@ -64,9 +65,9 @@ fn note(summary: Summary, out: &mut [Run], record: Record) -> Summary
 }
 
 // Reads on to the end of the stream, and gathers what the records say.
-fn gather(reader: &mut Reader, out: &mut [Run]) -> Result<Summary, Fault>
+fn gather(reader: &mut Reader, side: Side, out: &mut [Run<PayloadMark>]) -> Result<Summary, Fault>
     requires { ⌜ length (now out) ≡ 512 ⌝ ∗ ⌜ now reader .count ≡ 0 ⌝ }
-    ensures { λ r. ⌜ seen r (now (out .exit)) ≡ gathered-from none (now (reader .entry) .place) (reads (suc (length (now (now (reader .entry) .bytes)))) (length (now (now (reader .entry) .bytes))) (pos-of (now (reader .entry))) (rest-of (now (reader .entry)))) ⌝ }
+    ensures { λ r. ⌜ seen r (now (out .exit)) ≡ gathered-from side none (now (reader .entry) .place) (reads (suc (length (now (now (reader .entry) .bytes)))) (length (now (now (reader .entry) .bytes))) (pos-of (now (reader .entry))) (rest-of (now (reader .entry)))) ⌝ }
 {
     let mut summary = Summary {
         from: Span {
@@ -85,7 +86,7 @@ fn gather(reader: &mut Reader, out: &mut [Run]) -> Result<Summary, Fault>
         if let Record::End = record {
             break;
         }
-        summary = note(summary, out, record);
+        summary = note(summary, out, side, record);
     }
     if reader.place < reader.bytes.len() {
         return Err(Fault::new(Cause::Trailing, reader.place as u64));
@@ -94,8 +95,12 @@ fn gather(reader: &mut Reader, out: &mut [Run]) -> Result<Summary, Fault>
 }
 
 // The metadata of a stream, and its data records as runs.
-fn gather_stream(stream: &[u8], out: &mut [Run; 512]) -> Result<Summary, Fault>
-    ensures { λ r. ⌜ seen r (now (out .exit)) ≡ gathered-from none 12 (verdict (now (stream .entry))) ⌝ }
+fn gather_stream(
+    stream: &[u8],
+    side: Side,
+    out: &mut [Run<PayloadMark>; 512],
+) -> Result<Summary, Fault>
+    ensures { λ r. ⌜ seen r (now (out .exit)) ≡ gathered-from side none 12 (verdict (now (stream .entry))) ⌝ }
 {
     if !has_header(stream) {
         return Err(Fault::new(Cause::Header, 0));
@@ -112,13 +117,13 @@ fn gather_stream(stream: &[u8], out: &mut [Run; 512]) -> Result<Summary, Fault>
         end: 0,
         count: 0,
     };
-    gather(&mut reader, out)
+    gather(&mut reader, side, out)
 }
 
 // Reads a stream: its metadata, and its data records as runs, in their order.
-pub fn read_runs(stream: &[u8], out: &mut [Run; 512]) -> Result<Summary, Fault>
-    ensures result { λ r. ⌜ seen r (now (out .exit)) ≡ gathered-from none 12 (verdict (now (stream .entry))) ⌝ }
+pub fn read(stream: &[u8], side: Side, out: &mut [Run<PayloadMark>; 512]) -> Result<Summary, Fault>
+    ensures result { λ r. ⌜ seen r (now (out .exit)) ≡ gathered-from side none 12 (verdict (now (stream .entry))) ⌝ }
     ensures told { λ r. ⌜ Told (now (stream .entry)) r (now (out .exit)) ⌝ }
 {
-    gather_stream(stream, out)
+    gather_stream(stream, side, out)
 }
