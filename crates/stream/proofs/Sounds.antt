@@ -10,14 +10,8 @@ use Rattle.stream.specs.Steps.{Pos}
 use Rattle.stream.specs.Records.{Content, from-name, to-name, image-size, data-at, zeros-at, encoded-stream}
 use Rattle.stream.specs.Verdict.{start, verdict, checked}
 use Rattle.stream.specs.Wellformed.{Good-range, Well-formed, moved, Bytes}
-use Rattle.stream.specs.Places.{size-in, Tells}
-use Rattle.stream.specs.Gathered.{Gathered, gathered, gathered-from, gathered-of, none, seen}
-use Rattle.overlay.specs.declared.runs.Run.{Run}
-use Rattle.overlay.specs.declared.payloads.PayloadMark.{PayloadMark}
-use Rattle.overlay.specs.declared.payloads.Side.{Side}
-use Rattle.stream.specs.declared.kinds.Summary.{Summary}
-use Rattle.stream.proofs.Told.{places-tell}
-use Rattle.stream.specs.Sound.{Good-meta, froms, tos, sizes, Rising, Sound, Sound-exactly, Accepted-exactly, Exact, Told}
+use Rattle.stream.specs.Places.{size-in}
+use Rattle.stream.specs.Sound.{Good-meta, froms, tos, sizes, Rising, Sound, Sound-exactly, Accepted-exactly, Exact}
 use Rattle.stream.specs.declared.kinds.State.{State}
 use Rattle.stream.specs.declared.kinds.State.the-variants.{Data}
 use Rattle.fault.specs.declared.kinds.Cause.{Cause}
@@ -28,10 +22,10 @@ use Rattle.stream.proofs.Refused.{refused-exactly}
 use Rattle.std.specs.declared.result.Result.{Result}
 use Rattle.std.specs.declared.result.Result.the-variants.{Ok, Err}
 
-never : {A E C : Type 0} (x : A) (y : E) → _≡_ {A = Result A E} (Err y) (Ok x) → C
+pub never : {A E C : Type 0} (x : A) (y : E) → _≡_ {A = Result A E} (Err y) (Ok x) → C
 never x y h = let z : _≡_ {A = ℕ} 0 1 = cc in absurd (omega arith)
 
-ok-same : {A E : Type 0} (x y : A) → _≡_ {A = Result A E} (Ok x) (Ok y) → x ≡ y
+pub ok-same : {A E : Type 0} (x y : A) → _≡_ {A = Result A E} (Ok x) (Ok y) → x ≡ y
 ok-same x y h = cc
 
 abbrev num : Bool → ℕ
@@ -246,15 +240,3 @@ exact xs r b e =
       refused = λ f h. refused-exactly xs f b .0 (checked-err (verdict xs) f (sym e ∙ h));
       refusal = λ f w. e ∙ ap checked (refused-exactly xs f b .1 w);
     }
-
-gathered-ok : (side : Side) (o : Result (List Content) Fault) (g : Gathered) → gathered-from side none 12 o ≡ Ok g → (cs : List Content) × (o ≡ Ok cs) × (gathered side none 12 cs ≡ g)
-gathered-ok side (Ok cs) g h = (cs, refl, ok-same (gathered side none 12 cs) g h)
-gathered-ok side (Err f) g h = never g f h
-
-pub told : (side : Side) (xs : List ℕ) (r : Result Summary Fault) (out : List (Run PayloadMark)) → Bytes xs → seen r out ≡ gathered-from side none 12 (verdict xs) → Told xs r out
-told side xs r out b e s h =
-    let v = gathered-ok side (verdict xs) (gathered-of s out) (sym e ∙ ap (λ t. seen t out) h) in
-    let a = accepted-is-stream xs (v .0) b (v .1) in
-    let P : List ℕ → Type 0 = λ ys. Tells (v .0) ys (gathered-of s out) in
-    let Q : Gathered → Type 0 = λ g. Tells (v .0) (encoded-stream (v .0)) g in
-    (v .0, sound-exactly (v .0) .0 (a .1), a .0, subst P (sym (a .0)) (subst Q (v .2) (places-tell side (v .0))))

@@ -11,19 +11,19 @@ use Rattle.stream.specs.Gathered.{Gathered, noted, gathered, none, zero-run, p
 use Rattle.stream.specs.Places.{held, named, data-of, from-of, to-of, size-in, Tells, Places-tell}
 
 -- a field behind a first part
-field-behind : (xs pre rest : List ℕ) (place i n : ℕ) → xs ≡ pre ++ rest → place ≡ length pre → field xs (place + i) n ≡ field rest i n
+pub field-behind : (xs pre rest : List ℕ) (place i n : ℕ) → xs ≡ pre ++ rest → place ≡ length pre → field xs (place + i) n ≡ field rest i n
 field-behind xs pre rest place i n e l =
     ap (take n) (sym (drop-drop i place xs) ∙ ap (drop i) (ap (drop place) e ∙ drop-at pre rest place (sym l)))
 
 -- the records from a place on, with what was gathered before
 module _ (side : Side) (xs tail : List ℕ) where
-  here : (pre : List ℕ) (c : Content) (cs : List Content) → xs ≡ pre ++ (encodings (c ∷ cs) ++ tail) → xs ≡ pre ++ (encoded c ++ (encodings cs ++ tail))
+  pub here : (pre : List ℕ) (c : Content) (cs : List Content) → xs ≡ pre ++ (encodings (c ∷ cs) ++ tail) → xs ≡ pre ++ (encoded c ++ (encodings cs ++ tail))
   here pre c cs e = e ∙ ap (λ t. pre ++ t) (append-assoc (encoded c) (encodings cs) tail)
 
-  next : (pre : List ℕ) (c : Content) (cs : List Content) → xs ≡ pre ++ (encodings (c ∷ cs) ++ tail) → xs ≡ (pre ++ encoded c) ++ (encodings cs ++ tail)
+  pub next : (pre : List ℕ) (c : Content) (cs : List Content) → xs ≡ pre ++ (encodings (c ∷ cs) ++ tail) → xs ≡ (pre ++ encoded c) ++ (encodings cs ++ tail)
   next pre c cs e = here pre c cs e ∙ sym (append-assoc pre (encoded c) (encodings cs ++ tail))
 
-  on : (pre : List ℕ) (c : Content) (place : ℕ) → place ≡ length pre → place + length (encoded c) ≡ length (pre ++ encoded c)
+  pub on : (pre : List ℕ) (c : Content) (place : ℕ) → place ≡ length pre → place + length (encoded c) ≡ length (pre ++ encoded c)
   on pre c place l = omega (arith, length-append pre (encoded c))
 
   name-here : (pre : List ℕ) (t : ℕ) (name more : List ℕ) (place : ℕ) → xs ≡ pre ++ (t ∷ ((le-bytes 4 (length name) ++ name) ++ more)) → place ≡ length pre
@@ -71,7 +71,7 @@ module _ (side : Side) (xs tail : List ℕ) where
   to-told (data-at o n ∷ cs) pre place g name e l h = to-told cs (pre ++ encoded (data-at o n)) _ _ name (next pre (data-at o n) cs e) (on pre (data-at o n) place l) h
   to-told (zeros-at o n ∷ cs) pre place g name e l h = to-told cs (pre ++ encoded (zeros-at o n)) _ _ name (next pre (zeros-at o n) cs e) (on pre (zeros-at o n) place l) h
 
-size-told : (side : Side) (cs : List Content) (place : ℕ) (g : Gathered) → gathered side g place cs .size ≡ size-in (g .size) cs
+pub size-told : (side : Side) (cs : List Content) (place : ℕ) (g : Gathered) → gathered side g place cs .size ≡ size-in (g .size) cs
 size-told side [] place g = refl
 size-told side (from-name n ∷ cs) place g = size-told side cs _ _
 size-told side (to-name n ∷ cs) place g = size-told side cs _ _

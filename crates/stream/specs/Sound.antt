@@ -1,3 +1,5 @@
+-- Which lists of records are sound, in one look at the whole list, and that a stream is accepted exactly if it is the stream of one. Rests on
+-- the rules record by record (Wellformed).
 use mathlib.Core.Path.{_≡_}
 use mathlib.Core.List.{List, [], _∷_, _++_}
 use Prim.Native.Nat.{ℕ, suc, _+_, _^_, _≤_}
@@ -6,11 +8,7 @@ use Rattle.std.specs.shelf.Lists.{All}
 use Rattle.stream.specs.Records.{Content, from-name, to-name, image-size, data-at, zeros-at, encoded-stream}
 use Rattle.stream.specs.Verdict.{start, verdict, checked}
 use Rattle.stream.specs.Wellformed.{Good-name, Well-formed, Bytes, Refusal}
-use Rattle.stream.specs.Places.{size-in, Tells}
-use Rattle.stream.specs.Gathered.{gathered-of}
-use Rattle.overlay.specs.declared.runs.Run.{Run}
-use Rattle.overlay.specs.declared.payloads.PayloadMark.{PayloadMark}
-use Rattle.stream.specs.declared.kinds.Summary.{Summary}
+use Rattle.stream.specs.Places.{size-in}
 use Rattle.fault.specs.declared.kinds.Fault.{Fault}
 use Rattle.std.specs.declared.result.Result.{Result}
 use Rattle.std.specs.declared.result.Result.the-variants.{Ok, Err}
@@ -87,7 +85,3 @@ pub record Exact (xs : List ℕ) (r : Result (Unit {0}) Fault) : Type 0 where
   pub stream : Stream xs → r ≡ Ok tt
   pub refused : (f : Fault) → r ≡ Err f → Refusal xs f
   pub refusal : (f : Fault) → Refusal xs f → r ≡ Err f
-
--- a summary with its runs: the stream is that of a sound list of records, and they tell what the list says
-abbrev pub Told : List ℕ → Result Summary Fault → List (Run PayloadMark) → Type 0
-Told xs r out = (s : Summary) → r ≡ Ok s → (cs : List Content) × Sound cs × (xs ≡ encoded-stream cs) × Tells cs xs (gathered-of s out)

@@ -4,7 +4,8 @@ ghost use lib.ListN.{length};
 ghost use Rattle.stream.specs.Stands.{pos-of, rest-of};
 ghost use Rattle.stream.specs.Verdict.{reads, verdict};
 ghost use Rattle.stream.specs.Gathered.{Room, noted-by, runs-by, seen, gathered-from, none};
-ghost use Rattle.stream.specs.Sound.{Told};
+ghost use Rattle.std.specs.Vec.{made};
+ghost use Rattle.stream.specs.Told.{Told};
 use crate::has_header;
 use crate::kinds::Reader;
 use crate::kinds::Record;
@@ -67,7 +68,8 @@ fn note(summary: Summary, out: &mut [Run<PayloadMark>], side: Side, record: Reco
 // Reads on to the end of the stream, and gathers what the records say.
 fn gather(reader: &mut Reader, side: Side, out: &mut [Run<PayloadMark>]) -> Result<Summary, Fault>
     requires { ⌜ length (now out) ≡ 512 ⌝ ∗ ⌜ now reader .count ≡ 0 ⌝ }
-    ensures { λ r. ⌜ seen r (now (out .exit)) ≡ gathered-from side none (now (reader .entry) .place) (reads (suc (length (now (now (reader .entry) .bytes)))) (length (now (now (reader .entry) .bytes))) (pos-of (now (reader .entry))) (rest-of (now (reader .entry)))) ⌝ }
+    ensures few { λ r. ⌜ made r (λ s. s .count ≤ 512) ⌝ }
+    ensures gathers { λ r. ⌜ seen r (now (out .exit)) ≡ gathered-from side none (now (reader .entry) .place) (reads (suc (length (now (now (reader .entry) .bytes)))) (length (now (now (reader .entry) .bytes))) (pos-of (now (reader .entry))) (rest-of (now (reader .entry)))) ⌝ }
 {
     let mut summary = Summary {
         from: Span {
@@ -100,7 +102,8 @@ fn gather_stream(
     side: Side,
     out: &mut [Run<PayloadMark>; 512],
 ) -> Result<Summary, Fault>
-    ensures { λ r. ⌜ seen r (now (out .exit)) ≡ gathered-from side none 12 (verdict (now (stream .entry))) ⌝ }
+    ensures few { λ r. ⌜ made r (λ s. s .count ≤ 512) ⌝ }
+    ensures gathers { λ r. ⌜ seen r (now (out .exit)) ≡ gathered-from side none 12 (verdict (now (stream .entry))) ⌝ }
 {
     if !has_header(stream) {
         return Err(Fault::new(Cause::Header, 0));
@@ -123,7 +126,7 @@ fn gather_stream(
 // Reads a stream: its metadata, and its data records as runs, in their order.
 pub fn read(stream: &[u8], side: Side, out: &mut [Run<PayloadMark>; 512]) -> Result<Summary, Fault>
     ensures result { λ r. ⌜ seen r (now (out .exit)) ≡ gathered-from side none 12 (verdict (now (stream .entry))) ⌝ }
-    ensures told { λ r. ⌜ Told (now (stream .entry)) r (now (out .exit)) ⌝ }
+    ensures told { λ r. ⌜ made r (λ s. Told side (now (stream .entry)) s (now (out .exit))) ⌝ }
 {
     gather_stream(stream, side, out)
 }

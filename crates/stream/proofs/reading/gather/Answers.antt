@@ -26,7 +26,7 @@ returns-in-Break-record c =
     let y = err-from-errBy (c .from-residual .result) (c .from-residual .ensures .1) in
     let s = refused (reads k n) n _ (p .place) rest (step-of p rest) _ _ b (c .step .ensures .result) (c .in-Break-record .was tt) in
     let g = sym (ap (gathered-from (c .args .side) (gathered-of (c .records .summary) (c .records .out)) (p .place)) s) ∙ c .records .inv .3 .2 in
-    rw (y .1, y .2) g
+    rw (y .1, y .2) (record { few = tt; gathers = g })
 
 pub records-again : need.records-again
 records-again c =
@@ -69,7 +69,7 @@ returns-then-reader c =
     let s = stepped _ (step-of p rest) p q _ _ (c .step .ensures .result) (c .step .ensures .stands) (c .in-Continue-record .was tt) in
     let t = s ∙ ap (λ r. Ok (r, q)) (c .in-End .is) in
     let g = ap (gathered-from (c .args .side) (gathered-of (c .records .summary) (c .records .out)) (p .place)) (ends-early (reads k n) n (p .place) rest (step-of p rest) q t (omega arith)) in
-    rw (c .new .ensures) (sym g ∙ c .records .inv .3 .2)
+    rw (c .new .ensures) (record { few = tt; gathers = sym g ∙ c .records .inv .3 .2 })
 
 pub returns : need.returns
 returns c =
@@ -82,4 +82,6 @@ returns c =
     let s = stepped _ (step-of p rest) p q _ _ (c .step .ensures .result) (c .step .ensures .stands) (c .in-Continue-record .was tt) in
     let t = s ∙ ap (λ r. Ok (r, q)) (c .in-End .is) in
     let g = ap (gathered-from (c .args .side) (gathered-of (c .records .summary) (c .records .out)) (p .place)) (ends (reads k n) n (p .place) rest (step-of p rest) q t (omega arith)) in
-    sym g ∙ c .records .inv .3 .2
+    let a = c .records .inv .1 in
+    let b = c .records .inv .2 in
+    record { few = omega arith; gathers = sym g ∙ c .records .inv .3 .2 }
