@@ -2,20 +2,21 @@
 use mathlib.Core.Path.{_≡_}
 use mathlib.Core.List.{List, [], _∷_, map}
 use Prim.Native.Nat.{ℕ, _+_, _^_, _≤_, _<_}
-use lib.ListN.{length, getD}
+use lib.ListN.{length, getD, take}
 use Rattle.std.specs.Options.{mapped}
 use Rattle.std.specs.declared.option.Option.{Option}
 use Rattle.std.specs.declared.result.Result.{Result}
-use Rattle.std.specs.declared.result.Result.the-variants.{Ok}
+use Rattle.std.specs.declared.result.Result.the-variants.{Ok, Err}
+use Rattle.fault.specs.declared.kinds.Fault.{Fault}
 use Rattle.overlay.specs.declared.runs.Run.{Run}
 use Rattle.overlay.specs.declared.ranges.RangeMark.{RangeMark}
 use Rattle.overlay.specs.declared.ranges.RangeMark.the-variants as range
 use Rattle.overlay.specs.declared.payloads.PayloadMark.{PayloadMark}
 use Rattle.overlay.specs.declared.payloads.PayloadMark.the-variants.{Zeroed, Written}
 use Rattle.overlay.specs.declared.payloads.Side.{Side}
-use Rattle.overlay.specs.Marks.{payload-moves}
+use Rattle.overlay.specs.Marks.{payload-moves, range-moves, range-alike}
 use Rattle.overlay.specs.Payloads.{stream-of}
-use Rattle.overlay.specs.Runs.{painted, Rising}
+use Rattle.overlay.specs.Runs.{painted, Rising, remarked, runs-from}
 use Rattle.stream.specs.Records.{Content}
 use Rattle.stream.specs.Meaning.{Cell, zeroed, written, cells}
 
@@ -32,6 +33,15 @@ range-of (Written side place) = range.Written
 -- the difference of a size that parts of two streams mean
 abbrev pub parts-cells : List ℕ → List ℕ → List (Run PayloadMark) → ℕ → List (Option Cell)
 parts-cells earlier later parts size = map (mapped (cell-of earlier later)) (painted payload-moves parts size)
+
+-- the ranges that parts come to, by their kinds alone
+unfoldable pub part-ranges : List (Run PayloadMark) → ℕ → List (Run RangeMark)
+part-ranges parts size = runs-from range-moves range-alike 0 (painted range-moves (map (remarked range-of) parts) size)
+
+-- an answer that counts the first of `out`
+abbrev pub counted-ranges : Result ℕ Fault → List (Run RangeMark) → Result (List (Run RangeMark)) Fault
+counted-ranges (Ok k) out = Ok (take k out)
+counted-ranges (Err f) out = Err f
 
 -- the payload of a mark's n bytes lies in the stream of a side
 abbrev pub Payload-in : Side → List ℕ → PayloadMark → ℕ → Type 0

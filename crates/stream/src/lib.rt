@@ -17,12 +17,17 @@ use fault::Fault;
 
 mod fields;
 mod kinds;
+mod ranges;
 mod reader;
 mod reading;
 
 pub use fields::printable;
 pub use kinds::Span;
 pub use kinds::Summary;
+pub use ranges::MOST_RANGES;
+pub use ranges::find_ranges;
+pub use ranges::mark_ranges;
+pub use ranges::read_ranges;
 pub use reading::read;
 
 // Reads on to the end of the stream.
