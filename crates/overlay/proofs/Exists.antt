@@ -1,22 +1,20 @@
 -- Each list of states has canonical runs. Assumes nothing.
 use mathlib.Core.Path.{_≡_, refl, sym, ap, subst, _∙_}
-use mathlib.Core.Bool.{Bool, true, false, cond, _&&_}
-use mathlib.Core.Logic.{⊎-elim, inl, inr}
-use mathlib.Core.List.{List, [], _∷_, _++_, map}
+use mathlib.Core.Bool.{Bool, _&&_}
+use mathlib.Core.Logic.{⊎-elim}
+use mathlib.Core.List.{List, [], _∷_}
 use Prim.Native.Nat.{ℕ, suc, _+_, _-_, _%_, _^_, _≤_, _<_}
 use native.Mathlib.Omega.{arith}
 use lib.Dec.{eqb}
 use lib.ListN.{length, getD, take}
-use Rattle.std.specs.Iters.{counting}
 use Rattle.std.specs.Orderings.{Decides}
 use Rattle.std.proofs.shelf.Lists.{ext-getD}
-use Rattle.std.proofs.shelf.Counted.{length-map-counting, getD-map-counting}
-use Rattle.std.proofs.shelf.Tests.{cases-lt, cases-bool, cases-eq, and-parts, and-from, eqb-true, eq-eqb, cond-true, cond-false, both-ways}
+use Rattle.std.proofs.shelf.Tests.{cases-lt, cases-bool, and-parts, and-from, eqb-true, eq-eqb, cond-true, cond-false, both-ways}
 use Rattle.std.specs.declared.option.Option.{Option}
 use Rattle.std.specs.declared.option.Option.the-variants.{Some, None}
 use Rattle.overlay.specs.declared.runs.Run.{Run}
 use Rattle.overlay.specs.States.{over, overlaid}
-use Rattle.overlay.specs.Runs.{ends, run-at, at, painted, overlaid-at, Rising, Parted, Apart, Canonical, glue, runs-from, Runs, Answers, Answers-of}
+use Rattle.overlay.specs.Runs.{ends, run-at, at, painted, overlaid-at, Rising, Parted, Apart, glue, runs-from, Answers, Answers-of}
 use Rattle.overlay.specs.Laws.{Runs-exist}
 use Rattle.overlay.proofs.Painted.{over-assoc, run-inside, run-after, merged-at, moves-on, rising-lower, rising-le, at-before}
 use Rattle.overlay.proofs.Bridge.{painted-length, painted-getD, overlay-length, to-lists, from-lists, one-runs}

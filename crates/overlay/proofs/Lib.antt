@@ -6,4 +6,3 @@ pub mod Unique
 pub mod Bridge
 pub mod Exists
 pub mod Remarked
-pub mod Worked

@@ -1,9 +1,9 @@
 -- The laws of overlays on lists of states. Assumes nothing.
-use mathlib.Core.Path.{_≡_, refl, sym, ap, subst, _∙_}
-use mathlib.Core.Bool.{Bool, true, false, cond}
+use mathlib.Core.Path.{_≡_, refl, sym, ap, _∙_}
+use mathlib.Core.Bool.{cond}
 use mathlib.Core.Logic.{⊎-elim}
-use mathlib.Core.List.{List, [], _∷_, _++_, map}
-use Prim.Native.Nat.{ℕ, zero, suc, _+_, _<_}
+use mathlib.Core.List.{List, [], _∷_, map}
+use Prim.Native.Nat.{ℕ, zero, suc, _<_}
 use native.Mathlib.Omega.{arith}
 use lib.Dec.{ltb}
 use lib.ListN.{length, getD, replicate}
@@ -13,7 +13,7 @@ use Rattle.std.specs.Options.{mapped}
 use Rattle.std.specs.declared.option.Option.{Option}
 use Rattle.std.specs.declared.option.Option.the-variants.{Some, None}
 use Rattle.overlay.specs.States.{over, first, rest, overlaid, overlaid-all}
-use Rattle.overlay.specs.Laws.{Bracketing, Over-nothing, Stretches-unite, Maps-through}
+use Rattle.overlay.specs.Laws.{Bracketing, Over-nothing, Stretches-unite, Maps-through, Maps-through-all}
 use Rattle.overlay.proofs.Painted.{over-assoc, over-none}
 
 cons : {X : Type 0} {x y : X} {xs ys : List X} → x ≡ y → xs ≡ ys → x ∷ xs ≡ y ∷ ys
@@ -75,12 +75,13 @@ pub mapped-over : {M N : Type 0} (f : M → N) (a b : Option M) → mapped f (ov
 mapped-over f None b = refl
 mapped-over f (Some m) b = refl
 
-pub mapped-cond : {M N : Type 0} (f : M → N) (t : Bool) (a b : Option M) → mapped f (cond t a b) ≡ cond t (mapped f a) (mapped f b)
-mapped-cond f true a b = refl
-mapped-cond f false a b = refl
-
 pub maps-through : {M N : Type 0} → Maps-through M N
 unfolding overlaid
 maps-through f filler ds [] = refl
 maps-through f filler [] (e ∷ es) = cons (mapped-over f e (Some filler)) (maps-through f filler [] es)
 maps-through f filler (d ∷ ds) (e ∷ es) = cons (mapped-over f e d) (maps-through f filler ds es)
+
+pub maps-through-all : {M N : Type 0} → Maps-through-all M N
+unfolding overlaid-all
+maps-through-all f filler d [] = refl
+maps-through-all f filler d (e ∷ es) = maps-through-all f filler (overlaid filler d e) es ∙ ap (λ x. overlaid-all (f filler) x (map (map (mapped f)) es)) (maps-through f filler d e)

@@ -15,20 +15,20 @@ use Rattle.overlay.specs.Walks.{shifted, Pushed, Grown, Counted}
 use Rattle.overlay.proofs.Painted.{over-assoc, over-none, at-append, run-inside, run-before, rising-wider, rising-push, rising-last, merged-at, at-after}
 
 module _ {M : Type 0} (moves : M → ℕ → M) (further : (m : M) (a b : ℕ) → moves (moves m a) b ≡ moves m ((a + b) % 2 ^ 64)) where
-  pub apart-push : (xs : List (Run M)) (l r : Run M) → Apart moves (xs ++ l ∷ []) → (ends l ≡ r .offset → moves (l .mark) (l .length) ≡ r .mark → ⊥) → Apart moves ((xs ++ l ∷ []) ++ r ∷ [])
+  apart-push : (xs : List (Run M)) (l r : Run M) → Apart moves (xs ++ l ∷ []) → (ends l ≡ r .offset → moves (l .mark) (l .length) ≡ r .mark → ⊥) → Apart moves ((xs ++ l ∷ []) ++ r ∷ [])
   apart-push [] l r h n = (n, (tt, tt))
   apart-push (x ∷ []) l r h n = (h .0, apart-push [] l r (h .1) n)
   apart-push (x ∷ (y ∷ xs)) l r h n = (h .0, apart-push (y ∷ xs) l r (h .1) n)
 
-  pub apart-last : (xs : List (Run M)) (l m : Run M) → m .offset ≡ l .offset → m .mark ≡ l .mark → Apart moves (xs ++ l ∷ []) → Apart moves (xs ++ m ∷ [])
+  apart-last : (xs : List (Run M)) (l m : Run M) → m .offset ≡ l .offset → m .mark ≡ l .mark → Apart moves (xs ++ l ∷ []) → Apart moves (xs ++ m ∷ [])
   apart-last [] l m o k h = (tt, tt)
   apart-last (x ∷ []) l m o k h = ((λ e f. h .0 (e ∙ o) (f ∙ k)), apart-last [] l m o k (h .1))
   apart-last (x ∷ (y ∷ xs)) l m o k h = (h .0, apart-last (y ∷ xs) l m o k (h .1))
 
-  pub push-first : (r : Run M) → 1 ≤ r .length → Pushed moves [] r (r ∷ [])
+  push-first : (r : Run M) → 1 ≤ r .length → Pushed moves [] r (r ∷ [])
   push-first r s = record { rising = (omega arith, s, omega arith); apart = (tt, tt); paints = λ p. over-none _; grows = omega arith }
 
-  pub push-next : (xs : List (Run M)) (l r : Run M) → Rising 0 (xs ++ l ∷ []) (r .offset) → Apart moves (xs ++ l ∷ []) → 1 ≤ r .length
+  push-next : (xs : List (Run M)) (l r : Run M) → Rising 0 (xs ++ l ∷ []) (r .offset) → Apart moves (xs ++ l ∷ []) → 1 ≤ r .length
       → (ends l ≡ r .offset → moves (l .mark) (l .length) ≡ r .mark → ⊥) → Pushed moves (xs ++ l ∷ []) r ((xs ++ l ∷ []) ++ r ∷ [])
   push-next xs l r h a s n = record {
     rising = rising-push 0 (r .offset) (ends r) (xs ++ l ∷ []) r h (omega arith) s (omega arith);

@@ -1,20 +1,16 @@
 -- Runs with their marks changed: what they mean is changed the same way. Assumes nothing.
 use mathlib.Core.Path.{_≡_, refl, sym, ap, _∙_}
-use mathlib.Core.Bool.{cond}
 use mathlib.Core.Logic.{⊎-elim}
 use mathlib.Core.List.{List, [], _∷_, map, map-map}
-use Prim.Native.Nat.{ℕ, _+_, _-_, _≤_, _<_}
-use lib.Dec.{ltb}
+use Prim.Native.Nat.{ℕ, _-_}
 use Rattle.std.specs.Iters.{counting}
 use Rattle.std.specs.Options.{mapped}
-use Rattle.std.specs.declared.option.Option.{Option}
-use Rattle.std.specs.declared.option.Option.the-variants.{Some, None}
+use Rattle.std.specs.declared.option.Option.the-variants.{Some}
 use Rattle.std.proofs.shelf.Tests.{cases-lt}
 use Rattle.overlay.specs.declared.runs.Run.{Run}
-use Rattle.overlay.specs.States.{over}
-use Rattle.overlay.specs.Runs.{ends, run-at, at, painted, overlaid-at, Rising, remarked}
+use Rattle.overlay.specs.Runs.{ends, run-at, at, painted, Rising, remarked}
 use Rattle.overlay.proofs.Painted.{run-inside, run-before, run-after}
-use Rattle.overlay.proofs.Overlaid.{mapped-over, mapped-cond}
+use Rattle.overlay.proofs.Overlaid.{mapped-over}
 use Rattle.overlay.proofs.Bridge.{counted-same}
 
 pub rising-remarked : {M N : Type 0} (kind : M → N) (a b : ℕ) (rs : List (Run M)) → Rising a rs b → Rising a (map (remarked kind) rs) b

@@ -1,17 +1,16 @@
 -- Canonical runs of the same states are the same, and those of a front of the states are no more. Assumes nothing.
 use mathlib.Core.Path.{_≡_, refl, sym, ap, subst, _∙_}
-use mathlib.Core.List.{List, [], _∷_, _++_}
+use mathlib.Core.List.{List, [], _∷_}
 use mathlib.Core.Logic.{⊎-elim}
-use Prim.Native.Nat.{ℕ, _+_, _-_, _≤_, _<_}
+use Prim.Native.Nat.{ℕ, _-_, _≤_, _<_}
 use native.Mathlib.Omega.{arith}
 use lib.ListN.{length}
 use Rattle.std.proofs.shelf.Tests.{cases-lt, cases-order}
 use Rattle.std.specs.declared.option.Option.{Option}
 use Rattle.std.specs.declared.option.Option.the-variants.{Some, None}
 use Rattle.overlay.specs.declared.runs.Run.{Run}
-use Rattle.overlay.specs.States.{over}
-use Rattle.overlay.specs.Runs.{ends, run-at, at, Rising, Parted, Apart, Canonical, Runs-of}
-use Rattle.overlay.proofs.Painted.{run-inside, run-before, run-after, rising-le, at-before, at-after}
+use Rattle.overlay.specs.Runs.{ends, at, Rising, Parted, Apart, Runs-of}
+use Rattle.overlay.proofs.Painted.{run-inside, run-after, rising-le, at-before}
 
 some-none : {M : Type 0} (m : M) (s : Option M) → s ≡ Some m → s ≡ None → ⊥
 some-none m s p q = let z : _≡_ {A = ℕ} 0 1 = cc in omega arith
@@ -52,9 +51,9 @@ module _ {M : Type 0} (moves : M → ℕ → M) (still : (m : M) → moves m 0 �
   none-left c a [] h l = refl
   none-left c a (x ∷ xs) h l = absurd (omega (arith, rising-le (ends x) a xs (h .2)))
 
-  pub record Fronts (a b : ℕ) (xs ys : List (Run M)) : Type 0 where
-    pub fewer : length xs ≤ length ys
-    pub same : a ≡ b → xs ≡ ys
+  record Fronts (a b : ℕ) (xs ys : List (Run M)) : Type 0 where
+    fewer : length xs ≤ length ys
+    same : a ≡ b → xs ≡ ys
 
   fronts : (from a b : ℕ) (xs ys : List (Run M)) → a ≤ b → Rising from xs a → Apart moves xs → Rising from ys b → Apart moves ys
       → ((p : ℕ) → from ≤ p → p < a → at moves xs p ≡ at moves ys p) → Fronts a b xs ys

@@ -1,6 +1,6 @@
 -- Cursors into runs, pieces of even states, and the edges that are left. Assumes nothing.
 use mathlib.Core.Path.{_≡_, refl, sym, ap, _∙_}
-use mathlib.Core.Bool.{Bool, true, false, cond}
+use mathlib.Core.Bool.{true, false}
 use mathlib.Core.Logic.{⊎-elim}
 use mathlib.Core.List.{List, [], _∷_, _++_}
 use Prim.Native.Nat.{ℕ, min, _+_, _-_, _*_, _%_, _^_, _≤_, _<_}
@@ -15,7 +15,7 @@ use Rattle.std.specs.declared.option.Option.the-variants.{Some, None}
 use Rattle.overlay.specs.declared.runs.Run.{Run}
 use Rattle.overlay.specs.declared.runs.Piece.{Piece}
 use Rattle.overlay.specs.States.{over}
-use Rattle.overlay.specs.Runs.{ends, run-at, at, overlaid-at, Rising, Runs-of}
+use Rattle.overlay.specs.Runs.{ends, at, overlaid-at, Rising, Runs-of}
 use Rattle.overlay.specs.Walks.{shifted, Cursor, Ahead, Passed, Even, Grown, tick, edges-after, edges}
 use Rattle.overlay.proofs.Painted.{run-inside, run-before, run-after, moves-on, rising-le, rising-drop, at-before}
 

@@ -29,6 +29,12 @@ Stretches-unite M =
 abbrev pub Maps-through : Type 0 → Type 0 → Type 0
 Maps-through M N = (f : M → N) (filler : M) (ds es : List (Option M)) → map (mapped f) (overlaid filler ds es) ≡ overlaid (f filler) (map (mapped f) ds) (map (mapped f) es)
 
+-- and through the overlay of a stretch
+abbrev pub Maps-through-all : Type 0 → Type 0 → Type 0
+Maps-through-all M N =
+    (f : M → N) (filler : M) (d : List (Option M)) (ds : List (List (Option M)))
+    → map (mapped f) (overlaid-all filler d ds) ≡ overlaid-all (f filler) (map (mapped f) d) (map (map (mapped f)) ds)
+
 -- a difference has at most one list of canonical runs
 abbrev pub One-runs : {M : Type 0} → (M → ℕ → M) → Type 0
 One-runs {M} moves = (ds : List (Option M)) (xs ys : List (Run M)) → Runs moves ds xs → Runs moves ds ys → xs ≡ ys

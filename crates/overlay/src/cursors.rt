@@ -1,4 +1,4 @@
-ghost use Prim.Native.Nat.{ℕ, _+_, _-_, _^_, _<_};
+ghost use Prim.Native.Nat.{_+_, _-_, _^_, _<_};
 ghost use lib.ListN.{drop};
 ghost use Rattle.overlay.specs.Runs.{at, overlaid-at, Rising};
 ghost use Rattle.overlay.specs.Walks.{Cursor, Ahead, Passed, Even, edges};

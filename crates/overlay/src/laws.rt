@@ -1,4 +1,4 @@
-ghost use Rattle.overlay.specs.Laws.{Bracketing, Over-nothing, Stretches-unite, Maps-through, One-runs, Runs-exist};
+ghost use Rattle.overlay.specs.Laws.{Bracketing, Over-nothing, Stretches-unite, Maps-through, Maps-through-all, One-runs, Runs-exist};
 use super::marks::Mark;
 
 // The laws of overlays, for every kind of mark and every filler.
@@ -10,7 +10,8 @@ pub fn laws_of_overlays<M>()
 
 // A change of every mark goes through an overlay, so what holds of marks holds of what they stand for.
 pub fn laws_of_maps<M, N>()
-    ensures { λ _. ⌜ Maps-through M N ⌝ }
+    ensures one { λ _. ⌜ Maps-through M N ⌝ }
+    ensures stretch { λ _. ⌜ Maps-through-all M N ⌝ }
 {}
 
 // A difference has one list of canonical runs.

@@ -1,5 +1,6 @@
 ghost use Rattle.overlay.specs.Marks.{payload-moves, payload-filler, payload-alike};
-ghost use Rattle.overlay.specs.Payloads.{Handed, Payload};
+ghost use mathlib.Core.Path.{_≡_};
+ghost use Rattle.overlay.specs.Payloads.{stream-of, part-of, payload-of, held, held-at};
 use super::marks::Mark;
 use super::runs::Run;
 
@@ -57,7 +58,7 @@ pub fn part<'a>(
     place: usize,
     length: usize,
 ) -> Option<&'a [u8]>
-    ensures { λ r. ⌜ Handed (now (earlier .entry)) (now (later .entry)) side place «length» r ⌝ }
+    ensures { λ r. ⌜ held r ≡ part-of (stream-of (now (earlier .entry)) (now (later .entry)) side) place «length» ⌝ }
 {
     let stream = match side {
         Side::Earlier => earlier,
@@ -74,7 +75,7 @@ pub fn payload<'a>(
     later: &'a [u8],
     run: Run<PayloadMark>,
 ) -> Option<(u64, &'a [u8])>
-    ensures { λ r. ⌜ Payload (now (earlier .entry)) (now (later .entry)) (run .mark) (run .length) r ⌝ }
+    ensures { λ r. ⌜ held-at r ≡ payload-of (now (earlier .entry)) (now (later .entry)) (run .mark) (run .length) ⌝ }
 {
     let PayloadMark::Written(side, place) = run.mark else {
         return None;

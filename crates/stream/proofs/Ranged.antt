@@ -61,9 +61,9 @@ unfolding part-ranges
 found parts size bounds k out e a = (
   a .0,
   a .1 ∙ ap (runs-from range-moves range-alike 0)
-  (ap (λ t. overlaid range-filler t (painted range-moves bounds size)) (painted-nothing range-moves size)
-  ∙ over-nothing range-filler size (painted range-moves bounds size) (painted-length range-moves bounds size)
-  ∙ ap (λ t. painted range-moves t size) e),
+      (ap (λ t. overlaid range-filler t (painted range-moves bounds size)) (painted-nothing range-moves size)
+      ∙ over-nothing range-filler size (painted range-moves bounds size) (painted-length range-moves bounds size)
+      ∙ ap (λ t. painted range-moves t size) e),
 )
 
 pub gathered-err : (side : Side) (g : Gathered) (place : ℕ) (o : Result (List Content) Fault) (f : Fault) → Err f ≡ gathered-from side g place o → o ≡ Err f

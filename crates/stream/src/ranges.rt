@@ -4,6 +4,7 @@ ghost use Prim.Native.Nat.{ℕ, _≤_};
 ghost use lib.ListN.{length, take};
 ghost use Rattle.fault.specs.Fault.{then};
 ghost use Rattle.overlay.specs.Runs.{remarked, Rising};
+ghost use Rattle.std.specs.Vec.{made};
 ghost use Rattle.std.specs.declared.result.Result.the-variants.{Ok};
 ghost use Rattle.stream.specs.Meaning.{cells, ranges};
 ghost use Rattle.stream.specs.Parts.{range-of, part-ranges, counted-ranges};
@@ -69,11 +70,9 @@ pub fn find_ranges(
 }
 
 // Puts the ranges of a stream to the front of `out`, and counts them.
-pub fn read_ranges(
-    stream: &[u8],
-    out: &mut [Run<RangeMark>; MOST_RANGES],
-) -> Result<usize, Fault>
-    ensures { λ r. ⌜ counted-ranges r (now (out .exit)) ≡ then (verdict (now (stream .entry))) (λ cs. Ok (ranges (cells cs))) ⌝ }
+pub fn read_ranges(stream: &[u8], out: &mut [Run<RangeMark>; MOST_RANGES]) -> Result<usize, Fault>
+    ensures within { λ r. ⌜ made r (λ k. k ≤ 1026) ⌝ }
+    ensures ranges { λ r. ⌜ counted-ranges r (now (out .exit)) ≡ then (verdict (now (stream .entry))) (λ cs. Ok (ranges (cells cs))) ⌝ }
 {
     let mut parts = [Run {
         offset: 0,

@@ -1,5 +1,4 @@
 use mathlib.Core.Path.{refl}
-use borrow.Author.Needs.{needs}
 use lib.ListN.{take}
 use Rattle.overlay.proofs.Pushing.{grown-kept, grown-run, counted-as}
 use Rattle.overlay.proofs.overlays.add.Needs as need

@@ -1,7 +1,7 @@
 use mathlib.Core.Path.{_≡_, refl, subst}
 use Prim.Native.Nat.{_<_, _≤_, _^_}
 use native.Mathlib.Omega.{arith}
-use lib.ListN.{length, take, length-take}
+use lib.ListN.{take, length-take}
 use borrow.Author.Needs.{needs}
 use Rattle.overlay.specs.Runs.{overlaid-at, Runs-of, Answers-of}
 use Rattle.std.specs.declared.option.Option.the-variants.{Some, None}

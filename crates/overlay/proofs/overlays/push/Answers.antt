@@ -1,12 +1,7 @@
-use mathlib.Core.Path.{_≡_, refl, sym, ap, subst, _∙_}
-use mathlib.Core.List.{List, [], _∷_, _++_}
-use mathlib.Core.Bool.{true}
-use Prim.Native.Nat.{ℕ, _+_, _-_, _^_, _≤_, _<_}
+use mathlib.Core.Path.{refl}
+use Prim.Native.Nat.{_<_}
 use native.Mathlib.Omega.{arith}
-use lib.ListN.{length, take, set}
-use borrow.Author.Needs.{needs}
-use Rattle.overlay.specs.Runs.{ends, Rising, Apart}
-use Rattle.overlay.specs.Walks.{Pushed}
+use lib.ListN.{length}
 use Rattle.std.proofs.shelf.Lists.{take-more-set, length-set}
 use Rattle.overlay.proofs.Painted.{rising-last}
 use Rattle.overlay.proofs.Pushing.{last-split, last-stored, longer, push-merged, added-first, added-next}

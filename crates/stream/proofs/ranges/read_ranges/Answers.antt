@@ -15,7 +15,7 @@ pub returns-in-Break-summary : need.returns-in-Break-summary
 returns-in-Break-summary c =
     let y = err-from-errBy (c .from-residual .result) (c .from-residual .ensures .1) in
     let v = gathered-err _ _ _ _ _ (c .in-Break-summary .ensures tt .result) in
-    rw (y .1, y .2) (sym (ap (λ o. then o (λ cs. Ok (ranges (cells cs)))) v))
+    rw (y .1, y .2) (record { within = tt; ranges = sym (ap (λ o. then o (λ cs. Ok (ranges (cells cs)))) v) })
 
 pub returns : need.returns
 returns c =
@@ -27,4 +27,7 @@ returns c =
     ap (λ k. part-ranges (take k (c .read .last .out)) (s .size)) (omega arith)
     ∙ sym (part-ranges-are [] xs parts (s .size))
     ∙ ap ranges (t .stands .means [] xs refl) in
-    ap Ok (c .find-ranges .ensures .ranges ∙ e) ∙ sym (ap (λ o. then o (λ cs. Ok (ranges (cells cs)))) (t .was-read))
+    record {
+      within = c .find-ranges .ensures .within;
+      ranges = ap Ok (c .find-ranges .ensures .ranges ∙ e) ∙ sym (ap (λ o. then o (λ cs. Ok (ranges (cells cs)))) (t .was-read));
+    }

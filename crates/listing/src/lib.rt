@@ -1,2 +1,0 @@
-// The list of a stream: its canonical ranges as lines of text.
-mod numerals;
