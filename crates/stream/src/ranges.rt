@@ -2,13 +2,10 @@ ghost use mathlib.Core.Path.{_≡_};
 ghost use mathlib.Core.List.{List, map};
 ghost use Prim.Native.Nat.{ℕ, _≤_};
 ghost use lib.ListN.{length, take};
-ghost use Rattle.fault.specs.Fault.{then};
 ghost use Rattle.overlay.specs.Runs.{remarked, Rising};
 ghost use Rattle.std.specs.Vec.{made};
-ghost use Rattle.std.specs.declared.result.Result.the-variants.{Ok};
-ghost use Rattle.stream.specs.Meaning.{cells, ranges};
 ghost use Rattle.stream.specs.Parts.{range-of, part-ranges, counted-ranges};
-ghost use Rattle.stream.specs.Verdict.{verdict};
+ghost use Rattle.stream.specs.Told.{stream-ranges};
 use crate::reading::read;
 use fault::Fault;
 use overlay::PayloadMark;
@@ -72,7 +69,7 @@ pub fn find_ranges(
 // Puts the ranges of a stream to the front of `out`, and counts them.
 pub fn read_ranges(stream: &[u8], out: &mut [Run<RangeMark>; MOST_RANGES]) -> Result<usize, Fault>
     ensures within { λ r. ⌜ made r (λ k. k ≤ 1026) ⌝ }
-    ensures ranges { λ r. ⌜ counted-ranges r (now (out .exit)) ≡ then (verdict (now (stream .entry))) (λ cs. Ok (ranges (cells cs))) ⌝ }
+    ensures read { λ r. ⌜ counted-ranges r (now (out .exit)) ≡ stream-ranges (now (stream .entry)) ⌝ }
 {
     let mut parts = [Run {
         offset: 0,

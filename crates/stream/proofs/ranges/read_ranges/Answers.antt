@@ -8,16 +8,19 @@ use Rattle.std.specs.declared.result.Result.the-variants.{Ok}
 use Rattle.fault.specs.Fault.{then}
 use Rattle.stream.specs.Meaning.{cells, ranges}
 use Rattle.stream.specs.Parts.{part-ranges}
+use Rattle.stream.specs.Told.{stream-ranges}
 use Rattle.stream.proofs.Ranged.{gathered-err, part-ranges-are}
 use Rattle.stream.proofs.ranges.read_ranges.Needs as need
 
 pub returns-in-Break-summary : need.returns-in-Break-summary
+unfolding stream-ranges
 returns-in-Break-summary c =
     let y = err-from-errBy (c .from-residual .result) (c .from-residual .ensures .1) in
     let v = gathered-err _ _ _ _ _ (c .in-Break-summary .ensures tt .result) in
-    rw (y .1, y .2) (record { within = tt; ranges = sym (ap (λ o. then o (λ cs. Ok (ranges (cells cs)))) v) })
+    rw (y .1, y .2) (record { within = tt; read = sym (ap (λ o. then o (λ cs. Ok (ranges (cells cs)))) v) })
 
 pub returns : need.returns
+unfolding stream-ranges
 returns c =
     let t = c .in-Continue-summary .ensures tt .told in
     let s = c .in-Continue-summary .summary in
@@ -29,5 +32,5 @@ returns c =
     ∙ ap ranges (t .stands .means [] xs refl) in
     record {
       within = c .find-ranges .ensures .within;
-      ranges = ap Ok (c .find-ranges .ensures .ranges ∙ e) ∙ sym (ap (λ o. then o (λ cs. Ok (ranges (cells cs)))) (t .was-read));
+      read = ap Ok (c .find-ranges .ensures .ranges ∙ e) ∙ sym (ap (λ o. then o (λ cs. Ok (ranges (cells cs)))) (t .was-read));
     }
