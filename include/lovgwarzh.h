@@ -1,0 +1,38 @@
+/* Lovgwarzh for C: checks and lists difference streams.
+ *
+ * `rt staticlib lovgwarzh_c` writes target/staticlib/liblovgwarzh_c.a; link it, nothing else is needed.
+ * The calls allocate nothing, keep nothing between calls, and read and write only what they are handed.
+ * A pointer may be NULL where its length is 0. The buffers of one call must not overlap. */
+#ifndef LOVGWARZH_H
+#define LOVGWARZH_H
+
+#include <stddef.h>
+#include <stdint.h>
+
+#ifdef __cplusplus
+extern "C" {
+#endif
+
+/* `cause` is 0 if the call was not refused, and then `written` tells the bytes written. Otherwise the five
+ * numbers are those of docs/REFUSALS.md, `written` is 0, and no buffer was altered. */
+struct lovgwarzh_answer {
+    uint64_t written;
+    uint64_t cause;
+    uint64_t layer;
+    uint64_t place;
+    uint64_t record;
+    uint64_t entry;
+};
+
+/* Whether the `n` bytes are a stream that is accepted. */
+struct lovgwarzh_answer lovgwarzh_check(const uint8_t *stream, size_t n);
+
+/* Writes the list of the stream's ranges to the front of `text`, which has `room` bytes. Bytes past the text keep
+ * what they held. Too short a buffer is cause 14, and `place` is then the length that the text needs. */
+struct lovgwarzh_answer lovgwarzh_list(const uint8_t *stream, size_t n, uint8_t *text, size_t room);
+
+#ifdef __cplusplus
+}
+#endif
+
+#endif
