@@ -1,3 +1,5 @@
 mod Decimals
 mod Lines
 mod Rooms
+mod Longest
+mod Blind

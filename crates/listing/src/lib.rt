@@ -1,10 +1,13 @@
 // The list of a stream: its canonical ranges as lines of text.
 ghost use mathlib.Core.Path.{_≡_};
 ghost use Rattle.stream.specs.Buffers.{filled-by};
+ghost use Rattle.listing.specs.Laws.{Ranges-are-longest, Blind-to-payload};
 ghost use Rattle.listing.specs.Lists.{listed, list-answer};
 use fault::Fault;
 use overlay::RangeMark;
+use overlay::RangeMarks;
 use overlay::Run;
+use overlay::laws_of_runs;
 use stream::MOST_RANGES;
 use stream::read_ranges;
 use text::write_text;
@@ -25,4 +28,13 @@ pub fn list(stream: &[u8], text: &mut [u8]) -> Result<usize, Fault>
     }; MOST_RANGES];
     let count = read_ranges(stream, &mut ranges)?;
     write_text(&ranges[0..count], text)
+}
+
+// The laws of lists. Longest: the ranges of a difference are its longest runs of zeroed or of written
+// positions, in rising order. Blind: two streams that differ in payload bytes alone are listed alike.
+pub fn laws_of_lists()
+    ensures longest { λ _. ⌜ Ranges-are-longest ⌝ }
+    ensures blind { λ _. ⌜ Blind-to-payload ⌝ }
+{
+    laws_of_runs::<RangeMarks>();
 }

@@ -113,7 +113,7 @@ same-refl : (xs : List ℕ) → same xs xs ≡ true
 same-refl [] = refl
 same-refl (x ∷ xs) = and-from (eqb x x) (same xs xs) (eq-eqb x x refl) (same-refl xs)
 
-header-tells : (xs : List ℕ) → take 12 xs ≡ header → same (take 12 xs) header ≡ true
+pub header-tells : (xs : List ℕ) → take 12 xs ≡ header → same (take 12 xs) header ≡ true
 header-tells xs e = ap (λ t. same t header) e ∙ same-refl header
 
 refused-fault : (xs : List ℕ) (f : Fault) → Bytes xs → verdict xs ≡ Err f → Refusal xs f
