@@ -1,2 +1,4 @@
 pub mod Tail
 pub mod Opening
+mod Accepted
+mod Series

@@ -19,7 +19,7 @@ pub fn put_u8(tail: &mut [u8], v: u8)
 }
 
 // Writes a number in four bytes, lowest byte first.
-pub fn put_u32(tail: &mut [u8], v: u32)
+fn put_u32(tail: &mut [u8], v: u32)
     requires { ⌜ 4 ≤ length (now tail) ⌝ }
     ensures { λ _. ⌜ now (tail .exit) ≡ patched (now (tail .entry)) 0 (le-bytes 4 v) ⌝ }
 {
@@ -27,7 +27,7 @@ pub fn put_u32(tail: &mut [u8], v: u32)
 }
 
 // Writes a number in eight bytes, lowest byte first.
-pub fn put_u64(tail: &mut [u8], v: u64)
+fn put_u64(tail: &mut [u8], v: u64)
     requires { ⌜ 8 ≤ length (now tail) ⌝ }
     ensures { λ _. ⌜ now (tail .exit) ≡ patched (now (tail .entry)) 0 (le-bytes 8 v) ⌝ }
 {
@@ -43,7 +43,7 @@ pub fn put_bytes(tail: &mut [u8], bytes: &[u8])
 }
 
 // Writes a name with its tag and its length.
-pub fn put_name(tail: &mut [u8], tag: u8, name: &[u8])
+fn put_name(tail: &mut [u8], tag: u8, name: &[u8])
     requires { ⌜ length (now name) ≤ 64 ⌝ ∗ ⌜ 5 + length (now name) ≤ length (now tail) ⌝ }
     ensures { λ _. ⌜ now (tail .exit) ≡ patched (now (tail .entry)) 0 (name-record tag (now (name .entry))) ⌝ }
 {
@@ -62,7 +62,7 @@ pub fn from_length(from: &[u8]) -> usize
 }
 
 // Writes a from name unless it is empty, and tells how many bytes it took.
-pub fn put_from(tail: &mut [u8], from: &[u8]) -> usize
+fn put_from(tail: &mut [u8], from: &[u8]) -> usize
     requires { ⌜ length (now from) ≤ 64 ⌝ ∗ ⌜ length (encodings (from-records (now from))) ≤ length (now tail) ⌝ }
     ensures taken { λ r. ⌜ r ≡ length (encodings (from-records (now (from .entry)))) ⌝ }
     ensures buffer { λ _. ⌜ now (tail .exit) ≡ patched (now (tail .entry)) 0 (encodings (from-records (now (from .entry)))) ⌝ }
@@ -74,8 +74,8 @@ pub fn put_from(tail: &mut [u8], from: &[u8]) -> usize
     5 + from.len()
 }
 
-// Writes what stands before the data records: header, f unless the from name is empty, t and s.
-pub fn put_opening(tail: &mut [u8], from: &[u8], to: &[u8], size: u64)
+// Lays header, f, t and s one behind the other: each is lent the tail from where the last one ended.
+fn lay_opening(tail: &mut [u8], from: &[u8], to: &[u8], size: u64)
     requires { ⌜ length (now from) ≤ 64 ⌝ ∗ ⌜ length (now to) ≤ 64 ⌝ ∗ ⌜ 26 + length (encodings (from-records (now from))) + length (now to) ≤ length (now tail) ⌝ }
     ensures { λ _. ⌜ now (tail .exit) ≡ patched (now (tail .entry)) 0 (opening (now (from .entry)) (now (to .entry)) size) ⌝ }
 {
@@ -87,12 +87,28 @@ pub fn put_opening(tail: &mut [u8], from: &[u8], to: &[u8], size: u64)
     put_u64(&mut tail[at + 1..], size);
 }
 
-// Writes a data record of a range of `count` bytes, up to its payload.
-pub fn put_range(tail: &mut [u8], tag: u8, offset: u64, count: u64)
+// Writes what stands before the data records: header, f unless the from name is empty, t and s.
+pub fn put_opening(tail: &mut [u8], from: &[u8], to: &[u8], size: u64)
+    requires { ⌜ length (now from) ≤ 64 ⌝ ∗ ⌜ length (now to) ≤ 64 ⌝ ∗ ⌜ 26 + length (encodings (from-records (now from))) + length (now to) ≤ length (now tail) ⌝ }
+    ensures { λ _. ⌜ now (tail .exit) ≡ patched (now (tail .entry)) 0 (opening (now (from .entry)) (now (to .entry)) size) ⌝ }
+{
+    lay_opening(tail, from, to, size);
+}
+
+// Lays a tag, an offset and a length one behind the other.
+fn lay_range(tail: &mut [u8], tag: u8, offset: u64, count: u64)
     requires { ⌜ 17 ≤ length (now tail) ⌝ }
     ensures { λ _. ⌜ now (tail .exit) ≡ patched (now (tail .entry)) 0 (range-head tag offset count) ⌝ }
 {
     put_u8(tail, tag);
     put_u64(&mut tail[1..], offset);
     put_u64(&mut tail[9..], count);
+}
+
+// Writes a data record of a range of `count` bytes, up to its payload.
+pub fn put_range(tail: &mut [u8], tag: u8, offset: u64, count: u64)
+    requires { ⌜ 17 ≤ length (now tail) ⌝ }
+    ensures { λ _. ⌜ now (tail .exit) ≡ patched (now (tail .entry)) 0 (range-head tag offset count) ⌝ }
+{
+    lay_range(tail, tag, offset, count);
 }

@@ -76,7 +76,7 @@ loop-run-again c =
     let t = c .put-line-at .ensures .taken in (
       omega arith,
       lent-on (c .put-bytes .last .tail) (c .loop-run .out) _ (lines (take i rs)) (line (getD rs i none)) 19 (c .loop-run .at) (v .1) a (omega arith) (c .put-line-at .ensures .buffer)
-      ∙ ap (patched (c .put-bytes .last .tail) 19) (sym m),
+          ∙ ap (patched (c .put-bytes .last .tail) 19) (sym m),
       b,
     )
 

@@ -3,7 +3,7 @@ use mathlib.Core.List.{[], _∷_, _++_}
 use native.Mathlib.Omega.{arith}
 use Rattle.stream.specs.Bytes.{le-bytes}
 use Rattle.writer.proofs.Tail.{lent-on}
-use Rattle.writer.proofs.fields.put_range.Needs as need
+use Rattle.writer.proofs.fields.lay_range.Needs as need
 
 pub returns : need.returns
 returns c =

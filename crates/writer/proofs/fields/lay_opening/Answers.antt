@@ -9,7 +9,7 @@ use Rattle.stream.specs.Records.{header, encodings, from-records}
 use Rattle.writer.specs.Fields.{name-record}
 use Rattle.writer.proofs.Tail.{lent-on}
 use Rattle.writer.proofs.Opening.{opening-is}
-use Rattle.writer.proofs.fields.put_opening.Needs as need
+use Rattle.writer.proofs.fields.lay_opening.Needs as need
 
 pub returns : need.returns
 returns c =
