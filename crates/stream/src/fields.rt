@@ -30,8 +30,8 @@ pub(crate) fn u64_at(s: &[u8], at: usize) -> u64
     ])
 }
 
-// Whether each byte is one that a name may have: 33 to 126.
-pub fn printable(name: &[u8]) -> bool
+// Whether each byte of a name is from 33 to 126.
+fn all_printable(name: &[u8]) -> bool
     ensures { λ r. ⌜ r ≡ every-printable (now (name .entry)) ⌝ }
 {
     for b in name {
@@ -40,6 +40,13 @@ pub fn printable(name: &[u8]) -> bool
         }
     }
     true
+}
+
+// Whether each byte is one that a name may have: 33 to 126.
+pub fn printable(name: &[u8]) -> bool
+    ensures { λ r. ⌜ r ≡ every-printable (now (name .entry)) ⌝ }
+{
+    all_printable(name)
 }
 
 // The length of the name in the record that begins `rest`.

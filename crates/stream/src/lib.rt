@@ -75,12 +75,21 @@ fn examine(stream: &[u8]) -> Result<(), Fault>
     run(&mut reader)
 }
 
-// Checks a stream: yes, or its fault.
-pub fn check(stream: &[u8]) -> Result<(), Fault>
+// The same, with what that means for the bytes as a whole.
+fn judge(stream: &[u8]) -> Result<(), Fault>
     ensures result { λ r. ⌜ r ≡ checked (verdict (now (stream .entry))) ⌝ }
     ensures exact { λ r. ⌜ Exact (now (stream .entry)) r ⌝ }
 {
     examine(stream)
+}
+
+// Checks a stream: yes, or its fault. Yes exactly if it is the stream of a sound list of records; a
+// fault exactly if it is the first thing wrong.
+pub fn check(stream: &[u8]) -> Result<(), Fault>
+    ensures result { λ r. ⌜ r ≡ checked (verdict (now (stream .entry))) ⌝ }
+    ensures exact { λ r. ⌜ Exact (now (stream .entry)) r ⌝ }
+{
+    judge(stream)
 }
 
 // The laws of reading. Reading back: the stream of a well-formed list of records reads as that list.

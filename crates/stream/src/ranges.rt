@@ -29,7 +29,7 @@ fn kind_of(mark: PayloadMark) -> RangeMark
 }
 
 // Puts runs by their kind alone to the front of `out`.
-pub fn mark_ranges(parts: &[Run<PayloadMark>], out: &mut [Run<RangeMark>])
+fn put_kinds(parts: &[Run<PayloadMark>], out: &mut [Run<RangeMark>])
     requires { ⌜ length (now parts) ≤ length (now out) ⌝ }
     ensures { λ _. ⌜ take (length (now (parts .entry))) (now (out .exit)) ≡ map (remarked range-of) (now (parts .entry)) ⌝ }
 {
@@ -39,6 +39,38 @@ pub fn mark_ranges(parts: &[Run<PayloadMark>], out: &mut [Run<RangeMark>])
             length: part.length,
             mark: kind_of(part.mark),
         };
+    }
+}
+
+// Puts runs by their kind alone to the front of `out`.
+pub fn mark_ranges(parts: &[Run<PayloadMark>], out: &mut [Run<RangeMark>])
+    requires { ⌜ length (now parts) ≤ length (now out) ⌝ }
+    ensures { λ _. ⌜ take (length (now (parts .entry))) (now (out .exit)) ≡ map (remarked range-of) (now (parts .entry)) ⌝ }
+{
+    put_kinds(parts, out)
+}
+
+// Puts the ranges of one stream's runs to the front of `out`, and counts them: the overlay of its runs
+// over nothing.
+fn overlay_nothing(
+    parts: &[Run<PayloadMark>],
+    size: u64,
+    out: &mut [Run<RangeMark>; MOST_RANGES],
+) -> usize
+    requires rising { ⌜ Rising 0 (now parts) size ⌝ }
+    requires few { ⌜ length (now parts) ≤ 512 ⌝ }
+    ensures within { λ r. ⌜ r ≤ 1026 ⌝ }
+    ensures ranges { λ r. ⌜ take r (now (out .exit)) ≡ part-ranges (now (parts .entry)) size ⌝ }
+{
+    let mut bounds = [Run {
+        offset: 0,
+        length: 0,
+        mark: RangeMark::Zeroed,
+    }; 512];
+    put_kinds(parts, &mut bounds);
+    match overlay(&[], size, &bounds[0..parts.len()], size, out) {
+        Some(count) => count,
+        None => unreachable(),
     }
 }
 
@@ -54,20 +86,11 @@ pub fn find_ranges(
     ensures within { λ r. ⌜ r ≤ 1026 ⌝ }
     ensures ranges { λ r. ⌜ take r (now (out .exit)) ≡ part-ranges (now (parts .entry)) size ⌝ }
 {
-    let mut bounds = [Run {
-        offset: 0,
-        length: 0,
-        mark: RangeMark::Zeroed,
-    }; 512];
-    mark_ranges(parts, &mut bounds);
-    match overlay(&[], size, &bounds[0..parts.len()], size, out) {
-        Some(count) => count,
-        None => unreachable(),
-    }
+    overlay_nothing(parts, size, out)
 }
 
 // Puts the ranges of a stream to the front of `out`, and counts them.
-pub fn read_ranges(stream: &[u8], out: &mut [Run<RangeMark>; MOST_RANGES]) -> Result<usize, Fault>
+fn ranges_in(stream: &[u8], out: &mut [Run<RangeMark>; MOST_RANGES]) -> Result<usize, Fault>
     ensures within { λ r. ⌜ made r (λ k. k ≤ 1026) ⌝ }
     ensures read { λ r. ⌜ counted-ranges r (now (out .exit)) ≡ stream-ranges (now (stream .entry)) ⌝ }
 {
@@ -78,5 +101,13 @@ pub fn read_ranges(stream: &[u8], out: &mut [Run<RangeMark>; MOST_RANGES]) -> Re
     }; 512];
     let summary = read(stream, Side::Later, &mut parts)?;
     let count = summary.count;
-    Ok(find_ranges(&parts[0..count], summary.size, out))
+    Ok(overlay_nothing(&parts[0..count], summary.size, out))
+}
+
+// Puts the ranges of a stream to the front of `out`, and counts them.
+pub fn read_ranges(stream: &[u8], out: &mut [Run<RangeMark>; MOST_RANGES]) -> Result<usize, Fault>
+    ensures within { λ r. ⌜ made r (λ k. k ≤ 1026) ⌝ }
+    ensures read { λ r. ⌜ counted-ranges r (now (out .exit)) ≡ stream-ranges (now (stream .entry)) ⌝ }
+{
+    ranges_in(stream, out)
 }

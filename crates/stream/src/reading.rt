@@ -123,10 +123,18 @@ fn gather_stream(
     gather(&mut reader, side, out)
 }
 
+// The same, with what it means.
+fn read_told(stream: &[u8], side: Side, out: &mut [Run<PayloadMark>; 512]) -> Result<Summary, Fault>
+    ensures result { λ r. ⌜ seen r (now (out .exit)) ≡ gathered-from side none 12 (verdict (now (stream .entry))) ⌝ }
+    ensures told { λ r. ⌜ made r (λ s. Told side (now (stream .entry)) s (now (out .exit))) ⌝ }
+{
+    gather_stream(stream, side, out)
+}
+
 // Reads a stream: its metadata, and its data records as runs, in their order.
 pub fn read(stream: &[u8], side: Side, out: &mut [Run<PayloadMark>; 512]) -> Result<Summary, Fault>
     ensures result { λ r. ⌜ seen r (now (out .exit)) ≡ gathered-from side none 12 (verdict (now (stream .entry))) ⌝ }
     ensures told { λ r. ⌜ made r (λ s. Told side (now (stream .entry)) s (now (out .exit))) ⌝ }
 {
-    gather_stream(stream, side, out)
+    read_told(stream, side, out)
 }

@@ -1,16 +1,15 @@
 -- What an accepted call says, and what a refused one leaves.
-use mathlib.Core.Path.{_≡_, refl, sym, ap, _∙_}
+use mathlib.Core.Path.{_≡_, refl, ap}
 use mathlib.Core.List.{List, [], _∷_}
-use mathlib.Core.Bool.{Bool, true, false, cond, _&&_, _||_}
+use mathlib.Core.Bool.{Bool, true, false, cond}
 use mathlib.Core.Logic.{_⊎_, inl, inr}
-use Prim.Native.Nat.{ℕ, suc, _+_, _^_, _<_, _≤_}
+use Prim.Native.Nat.{ℕ, _+_, _^_, _≤_}
 use native.Mathlib.Omega.{arith}
 use lib.ListN.{length}
-use lib.Dec.{eqb, ltb, leb}
 use Rattle.std.proofs.shelf.Tests.{ltb-true, ltb-false, leb-true, eqb-true, eqb-false, and-parts, or-cases}
 use Rattle.stream.specs.Bytes.{patched}
 use Rattle.stream.specs.Records.{Content, encoded}
-use Rattle.stream.specs.Steps.{Pos, every-printable, err-by}
+use Rattle.stream.specs.Steps.{Pos, err-by}
 use Rattle.stream.specs.Wellformed.{Good-name, Good-range, moved}
 use Rattle.stream.specs.declared.kinds.State.the-variants.{Data}
 use Rattle.writer.specs.Fields.{opening}

@@ -2,7 +2,7 @@
 use mathlib.Core.Path.{_≡_, refl, sym, ap, subst, _∙_}
 use mathlib.Core.List.{List, [], _∷_, _++_}
 use mathlib.Core.Bool.{true, false}
-use mathlib.Core.Logic.{_⊎_, inl, inr}
+use mathlib.Core.Logic.{inl, inr}
 use Prim.Native.Nat.{ℕ, _+_, _≤_}
 use native.Mathlib.Nat.{zero-add}
 use native.Mathlib.Omega.{arith}
@@ -17,13 +17,13 @@ use Rattle.stream.specs.Wellformed.{Good-name, Good-range, Well-formed, Reads-b
 use Rattle.stream.specs.declared.kinds.State.the-variants.{Data}
 use Rattle.writer.specs.Fields.{opening}
 use Rattle.writer.specs.Calls.{pos-of, first, Finished}
-use Rattle.writer.specs.Whole.{Writes, no-more, write, zero, refused, not-ended, Holds-stream, Ended-is-stream}
+use Rattle.writer.specs.Whole.{Writes, no-more, write, zero, refused, not-ended, Ended-is-stream}
 use Rattle.writer.specs.declared.states.Recording.{Recording}
 use Rattle.writer.specs.declared.states.Ended.{Ended}
 use Rattle.writer.proofs.Tail.{patched-on, patched-none, length-patched}
 use Rattle.writer.proofs.Opening.{encodings-append}
-use Rattle.writer.proofs.Accepted.{Good-from, Opened-by, names-accepted, Grown, record-accepted, end-accepted, record-refused, end-refused, Unchanged}
-use Rattle.std.specs.declared.result.Result.the-variants.{Ok, Err}
+use Rattle.writer.proofs.Accepted.{Opened-by, names-accepted, Grown, record-accepted, end-accepted, record-refused, end-refused, Unchanged}
+use Rattle.std.specs.declared.result.Result.the-variants.{Ok}
 
 -- a buffer that held xs₀ holds the bytes bs, up to the place n
 record Filled (xs₀ xs : List ℕ) (n : ℕ) (bs : List ℕ) : Type 0 where

@@ -1,11 +1,10 @@
 // The writer's calls. A refusal gives the writer back as it was, and changes nothing.
 ghost use mathlib.Core.Path.{_≡_};
-ghost use Prim.Native.Nat.{_+_, _*_, _^_, _≤_};
+ghost use Prim.Native.Nat.{_+_, _^_, _≤_};
 ghost use lib.ListN.{length};
 ghost use Rattle.std.specs.Vec.{made};
-ghost use Rattle.stream.specs.Records.{data-at, zeros-at, encodings, from-records};
+ghost use Rattle.stream.specs.Records.{data-at, zeros-at};
 ghost use Rattle.stream.specs.Wellformed.{Good-range};
-ghost use Rattle.writer.specs.Fields.{opening};
 ghost use Rattle.writer.specs.Calls.{good-name, names-check, range-check, fits, named, admitted, pos-of, Opens, Follows, Named, Recorded, Finished};
 use crate::fields::from_length;
 use crate::fields::put_opening;

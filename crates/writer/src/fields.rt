@@ -1,7 +1,7 @@
 // Field writers: each writes at the front of the tail that it is lent, and leaves the bytes behind
 // it as they were. They ask for room; who lends a tail has checked it.
 ghost use mathlib.Core.Path.{_≡_};
-ghost use mathlib.Core.List.{[], _∷_, _++_};
+ghost use mathlib.Core.List.{[], _∷_};
 ghost use Prim.Native.Nat.{_+_, _≤_};
 ghost use lib.ListN.{length};
 ghost use Rattle.stream.specs.Bytes.{le-bytes, patched};

@@ -10,7 +10,7 @@ use Rattle.overlay.specs.declared.payloads.PayloadMark.{PayloadMark}
 use Rattle.overlay.specs.declared.payloads.PayloadMark.the-variants.{Zeroed}
 use Rattle.overlay.specs.Runs.{remarked}
 use Rattle.stream.specs.Parts.{range-of}
-use Rattle.stream.proofs.ranges.mark_ranges.Needs as need
+use Rattle.stream.proofs.ranges.put_kinds.Needs as need
 
 -- the run that a read past the end would give
 abbrev none : Run PayloadMark

@@ -9,13 +9,13 @@ use Rattle.overlay.specs.Runs.{Rising, remarked}
 use Rattle.overlay.proofs.Remarked.{rising-remarked}
 use Rattle.stream.specs.Parts.{range-of}
 use Rattle.stream.proofs.Ranged.{found}
-use Rattle.stream.proofs.ranges.find_ranges.Needs as need
+use Rattle.stream.proofs.ranges.overlay_nothing.Needs as need
 
 pub overlay-requires : need.overlay-requires
 overlay-requires c κs =
     let parts = c .args .parts .now in
-    let e : take (length parts - 0) (c .mark-ranges .last .out) ≡ map (remarked range-of) parts =
-    ap (λ k. take k (c .mark-ranges .last .out)) (omega arith) ∙ c .mark-ranges .ensures in
+    let e : take (length parts - 0) (c .put-kinds .last .out) ≡ map (remarked range-of) parts =
+    ap (λ k. take k (c .put-kinds .last .out)) (omega arith) ∙ c .put-kinds .ensures in
     record {
       earlier-rising = omega arith;
       later-rising = rw e (rising-remarked range-of 0 (c .args .size) parts (c .pre .rising));
@@ -24,7 +24,7 @@ overlay-requires c κs =
 pub returns : need.returns
 returns c =
     let parts = c .args .parts .now in
-    let e : take (length parts - 0) (c .mark-ranges .last .out) ≡ map (remarked range-of) parts =
-    ap (λ k. take k (c .mark-ranges .last .out)) (omega arith) ∙ c .mark-ranges .ensures in
+    let e : take (length parts - 0) (c .put-kinds .last .out) ≡ map (remarked range-of) parts =
+    ap (λ k. take k (c .put-kinds .last .out)) (omega arith) ∙ c .put-kinds .ensures in
     let f = found parts (c .args .size) _ (c .in-Some .count) (c .overlay .last .out) e (c .in-Some .ensures tt .equal) in
     record { within = omega (arith, f .0); ranges = f .1 }

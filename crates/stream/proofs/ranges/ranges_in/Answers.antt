@@ -10,7 +10,7 @@ use Rattle.stream.specs.Meaning.{cells, ranges}
 use Rattle.stream.specs.Parts.{part-ranges}
 use Rattle.stream.specs.Told.{stream-ranges}
 use Rattle.stream.proofs.Ranged.{gathered-err, part-ranges-are}
-use Rattle.stream.proofs.ranges.read_ranges.Needs as need
+use Rattle.stream.proofs.ranges.ranges_in.Needs as need
 
 pub returns-in-Break-summary : need.returns-in-Break-summary
 unfolding stream-ranges
@@ -31,6 +31,6 @@ returns c =
     ∙ sym (part-ranges-are [] xs parts (s .size))
     ∙ ap ranges (t .stands .means [] xs refl) in
     record {
-      within = c .find-ranges .ensures .within;
-      read = ap Ok (c .find-ranges .ensures .ranges ∙ e) ∙ sym (ap (λ o. then o (λ cs. Ok (ranges (cells cs)))) (t .was-read));
+      within = c .overlay-nothing .ensures .within;
+      read = ap Ok (c .overlay-nothing .ensures .ranges ∙ e) ∙ sym (ap (λ o. then o (λ cs. Ok (ranges (cells cs)))) (t .was-read));
     }

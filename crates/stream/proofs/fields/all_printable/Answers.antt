@@ -1,5 +1,5 @@
-use Rattle.stream.proofs.fields.printable.Needs as need
-use Rattle.stream.proofs.fields.printable.Needs.{then-b-lt33·by·then-b-lt33, then-b-lt33·by·else-b-lt33·then-b-gt126}
+use Rattle.stream.proofs.fields.all_printable.Needs as need
+use Rattle.stream.proofs.fields.all_printable.Needs.{then-b-lt33·by·then-b-lt33, then-b-lt33·by·else-b-lt33·then-b-gt126}
 use mathlib.Core.Path.{_≡_, sym, ap, _∙_}
 use mathlib.Core.List.{List}
 use mathlib.Core.Bool.{Bool, true, false, _&&_}
