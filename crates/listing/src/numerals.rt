@@ -5,14 +5,14 @@ ghost use Rattle.std.specs.Written.{decimal};
 
 // The decimal digits of a number, at the end of twenty bytes: from `first` on.
 #[derive(Clone, Copy)]
-pub struct Numeral {
-    pub digits: [u8; 20],
-    pub first: usize,
+pub(crate) struct Numeral {
+    pub(crate) digits: [u8; 20],
+    pub(crate) first: usize,
 }
 
 impl Numeral {
     // The digits of a number, found from the last one on.
-    pub fn of(n: u64) -> Numeral
+    pub(crate) fn of(n: u64) -> Numeral
         ensures counts { λ r. ⌜ length (decimal n) + r .first ≡ 20 ⌝ }
         ensures digits { λ r. ⌜ drop (r .first) (r .digits) ≡ decimal n ⌝ }
     {

@@ -1,3 +1,18 @@
+use overlay::PayloadMark;
+use overlay::RangeMark;
+use overlay::Run;
+
+// How many data records a stream may have.
+pub const MOST_RECORDS: usize = 512;
+
+// How many ranges the runs of one stream may come to, by the bound that the overlay promises.
+pub const MOST_RANGES: usize = 1026;
+
+// Places for the runs of one stream, and for its ranges.
+pub type Parts = [Run<PayloadMark>; MOST_RECORDS];
+
+pub type Ranges = [Run<RangeMark>; MOST_RANGES];
+
 // Which of the metadata was read.
 #[derive(Clone, Copy)]
 pub struct Seen {

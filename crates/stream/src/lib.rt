@@ -22,9 +22,12 @@ mod reader;
 mod reading;
 
 pub use fields::printable;
+pub use kinds::MOST_RANGES;
+pub use kinds::MOST_RECORDS;
+pub use kinds::Parts;
+pub use kinds::Ranges;
 pub use kinds::Span;
 pub use kinds::Summary;
-pub use ranges::MOST_RANGES;
 pub use ranges::find_ranges;
 pub use ranges::mark_ranges;
 pub use ranges::read_ranges;

@@ -6,6 +6,8 @@ ghost use Rattle.overlay.specs.Runs.{remarked, Rising};
 ghost use Rattle.std.specs.Vec.{made};
 ghost use Rattle.stream.specs.Parts.{range-of, part-ranges, counted-ranges};
 ghost use Rattle.stream.specs.Told.{stream-ranges};
+use crate::kinds::MOST_RECORDS;
+use crate::kinds::Ranges;
 use crate::reading::read;
 use fault::Fault;
 use overlay::PayloadMark;
@@ -14,9 +16,6 @@ use overlay::RangeMarks;
 use overlay::Run;
 use overlay::Side;
 use overlay::overlay;
-
-// How many ranges the runs of one stream may come to, by the bound that the overlay promises.
-pub const MOST_RANGES: usize = 1026;
 
 // The kind of a payload mark.
 fn kind_of(mark: PayloadMark) -> RangeMark
@@ -52,11 +51,7 @@ pub fn mark_ranges(parts: &[Run<PayloadMark>], out: &mut [Run<RangeMark>])
 
 // Puts the ranges of one stream's runs to the front of `out`, and counts them: the overlay of its runs
 // over nothing.
-fn overlay_nothing(
-    parts: &[Run<PayloadMark>],
-    size: u64,
-    out: &mut [Run<RangeMark>; MOST_RANGES],
-) -> usize
+fn overlay_nothing(parts: &[Run<PayloadMark>], size: u64, out: &mut Ranges) -> usize
     requires rising { ⌜ Rising 0 (now parts) size ⌝ }
     requires few { ⌜ length (now parts) ≤ 512 ⌝ }
     ensures within { λ r. ⌜ r ≤ 1026 ⌝ }
@@ -66,7 +61,7 @@ fn overlay_nothing(
         offset: 0,
         length: 0,
         mark: RangeMark::Zeroed,
-    }; 512];
+    }; MOST_RECORDS];
     put_kinds(parts, &mut bounds);
     match overlay(&[], size, &bounds[0..parts.len()], size, out) {
         Some(count) => count,
@@ -76,11 +71,7 @@ fn overlay_nothing(
 
 // Puts the ranges of one stream's runs to the front of `out`, and counts them: the overlay of its runs
 // over nothing.
-pub fn find_ranges(
-    parts: &[Run<PayloadMark>],
-    size: u64,
-    out: &mut [Run<RangeMark>; MOST_RANGES],
-) -> usize
+pub fn find_ranges(parts: &[Run<PayloadMark>], size: u64, out: &mut Ranges) -> usize
     requires rising { ⌜ Rising 0 (now parts) size ⌝ }
     requires few { ⌜ length (now parts) ≤ 512 ⌝ }
     ensures within { λ r. ⌜ r ≤ 1026 ⌝ }
@@ -90,7 +81,7 @@ pub fn find_ranges(
 }
 
 // Puts the ranges of a stream to the front of `out`, and counts them.
-fn ranges_in(stream: &[u8], out: &mut [Run<RangeMark>; MOST_RANGES]) -> Result<usize, Fault>
+fn ranges_in(stream: &[u8], out: &mut Ranges) -> Result<usize, Fault>
     ensures within { λ r. ⌜ made r (λ k. k ≤ 1026) ⌝ }
     ensures read { λ r. ⌜ counted-ranges r (now (out .exit)) ≡ stream-ranges (now (stream .entry)) ⌝ }
 {
@@ -98,14 +89,14 @@ fn ranges_in(stream: &[u8], out: &mut [Run<RangeMark>; MOST_RANGES]) -> Result<u
         offset: 0,
         length: 0,
         mark: PayloadMark::Zeroed,
-    }; 512];
+    }; MOST_RECORDS];
     let summary = read(stream, Side::Later, &mut parts)?;
     let count = summary.count;
     Ok(overlay_nothing(&parts[0..count], summary.size, out))
 }
 
 // Puts the ranges of a stream to the front of `out`, and counts them.
-pub fn read_ranges(stream: &[u8], out: &mut [Run<RangeMark>; MOST_RANGES]) -> Result<usize, Fault>
+pub fn read_ranges(stream: &[u8], out: &mut Ranges) -> Result<usize, Fault>
     ensures within { λ r. ⌜ made r (λ k. k ≤ 1026) ⌝ }
     ensures read { λ r. ⌜ counted-ranges r (now (out .exit)) ≡ stream-ranges (now (stream .entry)) ⌝ }
 {

@@ -7,6 +7,7 @@ ghost use Rattle.stream.specs.Gathered.{Room, noted-by, runs-by, seen, gathere
 ghost use Rattle.std.specs.Vec.{made};
 ghost use Rattle.stream.specs.Told.{Told};
 use crate::has_header;
+use crate::kinds::Parts;
 use crate::kinds::Reader;
 use crate::kinds::Record;
 use crate::kinds::Seen;
@@ -97,11 +98,7 @@ fn gather(reader: &mut Reader, side: Side, out: &mut [Run<PayloadMark>]) -> Resu
 }
 
 // The metadata of a stream, and its data records as runs.
-fn gather_stream(
-    stream: &[u8],
-    side: Side,
-    out: &mut [Run<PayloadMark>; 512],
-) -> Result<Summary, Fault>
+fn gather_stream(stream: &[u8], side: Side, out: &mut Parts) -> Result<Summary, Fault>
     ensures few { λ r. ⌜ made r (λ s. s .count ≤ 512) ⌝ }
     ensures gathers { λ r. ⌜ seen r (now (out .exit)) ≡ gathered-from side none 12 (verdict (now (stream .entry))) ⌝ }
 {
@@ -124,7 +121,7 @@ fn gather_stream(
 }
 
 // The same, with what it means.
-fn read_told(stream: &[u8], side: Side, out: &mut [Run<PayloadMark>; 512]) -> Result<Summary, Fault>
+fn read_told(stream: &[u8], side: Side, out: &mut Parts) -> Result<Summary, Fault>
     ensures result { λ r. ⌜ seen r (now (out .exit)) ≡ gathered-from side none 12 (verdict (now (stream .entry))) ⌝ }
     ensures told { λ r. ⌜ made r (λ s. Told side (now (stream .entry)) s (now (out .exit))) ⌝ }
 {
@@ -132,7 +129,7 @@ fn read_told(stream: &[u8], side: Side, out: &mut [Run<PayloadMark>; 512]) -> Re
 }
 
 // Reads a stream: its metadata, and its data records as runs, in their order.
-pub fn read(stream: &[u8], side: Side, out: &mut [Run<PayloadMark>; 512]) -> Result<Summary, Fault>
+pub fn read(stream: &[u8], side: Side, out: &mut Parts) -> Result<Summary, Fault>
     ensures result { λ r. ⌜ seen r (now (out .exit)) ≡ gathered-from side none 12 (verdict (now (stream .entry))) ⌝ }
     ensures told { λ r. ⌜ made r (λ s. Told side (now (stream .entry)) s (now (out .exit))) ⌝ }
 {
