@@ -1,0 +1,5 @@
+pub mod FilledLaws
+pub mod PageLaws
+pub mod Paged
+pub mod Pages
+pub mod State

@@ -1,0 +1,4 @@
+pub mod Flat
+pub mod Images
+pub mod Memory
+pub mod Stores
