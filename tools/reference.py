@@ -119,6 +119,66 @@ def into(buffer, written, layer):
     return written + buffer[len(written) :], len(written)
 
 
+class Difference:
+    """Names, size and the ranges of a stream; kept positions are in none of them."""
+
+    def __init__(self, origin, to, size, found):
+        self.origin, self.to, self.size, self.ranges = origin, to, size, found
+
+    def at(self, start, stop):
+        """The state of the positions from start up to stop, where no range begins or ends in between: None, or a tag with its bytes."""
+        for offset, length, tag, payload in self.ranges:
+            if offset <= start and stop <= offset + length:
+                return tag, payload[start - offset : stop - offset] if tag == "w" else b""
+        return None
+
+
+def meaning(stream):
+    records = read(stream)
+    value = {record[0]: record[1] for record in records if record[0] in "fts"}
+    return Difference(value.get("f", b""), value["t"], value["s"], ranges(records))
+
+
+def canonical(d):
+    data = [write(o, p) if tag == "w" else zero(o, n) for o, n, tag, p in d.ranges]
+    return stream(d.to, d.size, *data, origin=d.origin)
+
+
+def joined(earlier, later):
+    """The join of two differences: the later state, unless it keeps; then zeroed past the earlier size, and the earlier state before."""
+    edges = {0, later.size, min(earlier.size, later.size)}
+    for d in (earlier, later):
+        for offset, length, _, _ in d.ranges:
+            edges |= {min(offset, later.size), min(offset + length, later.size)}
+    records, edges = [], sorted(edges)
+    for start, stop in zip(edges, edges[1:]):
+        state = later.at(start, stop)
+        if state is None:
+            state = ("z", b"") if start >= earlier.size else earlier.at(start, stop)
+        if state is not None:
+            records.append((state[0], start, state[1] if state[0] == "w" else stop - start))
+    return Difference(earlier.origin, later.to, later.size, ranges(records))
+
+
+def in_entry(entry, call, *arguments):
+    try:
+        return call(*arguments)
+    except Refused as refused:
+        refused.numbers[4] = entry
+        raise
+
+
+def join(first, second, buffer):
+    earlier = in_entry(0, meaning, first)
+    later = in_entry(1, meaning, second)
+    if later.origin != earlier.to:
+        raise Refused(12, 2, 0)
+    result = joined(earlier, later)
+    if len(result.ranges) > 512:
+        raise Refused(13, 2, 0)
+    return into(buffer, canonical(result), 2)
+
+
 def listed(stream, buffer):
     return into(buffer, text(ranges(read(stream))), 1)
 
