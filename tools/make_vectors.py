@@ -38,6 +38,23 @@ class Cases:
             self.told.append(" ".join(map(str, refused.numbers)) + " " + shown(buffer))
 
 
+    def join(self, first, second, room):
+        self.asked.append(f"join {room} {shown(first)} {shown(second)}")
+        buffer = bytes([FILL]) * room
+        try:
+            buffer, written = ref.join(first, second, buffer)
+            self.told.append(f"{written} {shown(buffer)}")
+        except ref.Refused as refused:
+            self.told.append(" ".join(map(str, refused.numbers)) + " " + shown(buffer))
+
+    def merge(self, first, second, merged):
+        """A join that Ceph's tool made too: its output, made canonical, is what has to come out."""
+        wanted = ref.canonical(ref.meaning(merged))
+        room = len(wanted) + 3
+        self.asked.append(f"join {room} {shown(first)} {shown(second)}")
+        self.told.append(f"{len(wanted)} {shown(wanted + bytes([FILL]) * 3)}")
+
+
 def edges(cases):
     cases.check(b"")
     cases.check(HEADER)
@@ -103,6 +120,39 @@ def lists(cases):
     cases.list(stream(b"b", 10, second), 40)
 
 
+def joins(cases):
+    a = stream(b"b", 10, write(2, b"WXYZ"), origin=b"a")
+    b = stream(b"c", 10, write(4, b"q"), origin=b"b")
+    for room in (0, 54, 55, 56):
+        cases.join(a, b, room)
+    small, grown, cut = stream(b"b", 4, origin=b"a"), stream(b"c", 10, write(8, b"k"), origin=b"b"), stream(b"d", 6, origin=b"c")
+    for room in (85, 86, 90):
+        cases.join(small, grown, room)
+    both = lambda first, second: ref.canonical(ref.joined(ref.meaning(first), ref.meaning(second)))
+    for first, second in ((both(small, grown), cut), (small, both(grown, cut))):
+        cases.join(first, second, 60)
+    # names that do not meet, a later stream without a from name, the same stream twice
+    cases.join(b, a, 80)
+    cases.join(a, stream(b"c", 10), 80)
+    cases.join(a, a, 80)
+    # a fault of the earlier stream comes first, then one of the later
+    for first, second in ((b"", b""), (a, b""), (a[:-1], b), (a, b[:-1]), (a + b"e", b[:3]), (a, b + b"x")):
+        cases.join(first, second, 80)
+    # 512 and 513 canonical records, and many parts in few records
+    every = lambda start, count, step: [zero(start + step * i, 1) for i in range(count)]
+    for count in (1, 256, 257):
+        first = stream(b"b", 5000, *every(0, 256, 4), origin=b"a")
+        second = stream(b"c", 5000, *every(2, count, 4), origin=b"b")
+        for room in (0, 20000):
+            cases.join(first, second, room)
+    cases.join(stream(b"b", 4000, write(0, bytes(range(256)) * 8), origin=b"a"), stream(b"c", 4000, *[write(4 * i, bytes([i % 256])) for i in range(512)], origin=b"b"), 2200)
+
+
+def merges(cases):
+    for line in (HOME / "data" / "merges.txt").read_text().splitlines():
+        cases.merge(*map(bytes.fromhex, line.split()))
+
+
 def damaged(cases, seed, count):
     """Streams with a byte changed, left out, doubled or put in."""
     rng = random.Random(seed)
@@ -138,6 +188,8 @@ def main():
     orders(cases)
     cuts(cases, stream(b"b", 10, write(2, b"WXYZ"), zero(7, 2), write(9, b"q"), origin=b"a"))
     lists(cases)
+    joins(cases)
+    merges(cases)
     damaged(cases, 1, 400)
     (HOME / "stdin").write_text("".join(line + "\n" for line in cases.asked))
     (HOME / "stdout").write_text("".join(line + "\n" for line in cases.told))

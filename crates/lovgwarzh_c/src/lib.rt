@@ -2,13 +2,16 @@
 // include/lovgwarzh.h.
 ghost use mathlib.Core.Path.{_≡_};
 ghost use Rattle.fault.specs.Fault.{then};
+ghost use Rattle.fault.specs.declared.kinds.Layer.the-variants as layers;
+ghost use Rattle.join.specs.Joins.{joined-stream};
 ghost use Rattle.listing.specs.Lists.{listed, list-answer};
 ghost use Rattle.std.specs.declared.result.Result.the-variants.{Ok};
-ghost use Rattle.stream.specs.Buffers.{filled-by};
+ghost use Rattle.stream.specs.Buffers.{filling, filled-by};
 ghost use Rattle.stream.specs.Verdict.{verdict, checked};
 ghost use Rattle.lovgwarzh_c.specs.Answers.{answer-of};
 use answer::Answer;
 use fault::Fault;
+use join::join;
 use listing::list;
 use stream::check;
 
@@ -56,4 +59,13 @@ pub extern "C" fn lovgwarzh_list(stream: &[u8], text: &mut [u8]) -> Answer
     ensures buffer { λ _. ⌜ now (text .exit) ≡ filled-by (listed (now (stream .entry))) (now (text .entry)) ⌝ }
 {
     answer_of(list(stream, text))
+}
+
+// Joins two streams into `out`.
+#[unsafe(no_mangle)]
+pub extern "C" fn lovgwarzh_join(earlier: &[u8], later: &[u8], out: &mut [u8]) -> Answer
+    ensures answer { λ a. ⌜ a ≡ answer-of (then (joined-stream (now (earlier .entry)) (now (later .entry))) (λ bytes. filling layers.Join (now (out .entry)) bytes)) ⌝ }
+    ensures buffer { λ _. ⌜ now (out .exit) ≡ filled-by (joined-stream (now (earlier .entry)) (now (later .entry))) (now (out .entry)) ⌝ }
+{
+    answer_of(join(earlier, later, out))
 }

@@ -18,21 +18,21 @@ pub struct Memory<'a> {
 
 impl<'a> Memory<'a> {
     // The largest size of an image in the memory.
-    pub fn room(&self) -> u64
+    pub(crate) fn room(&self) -> u64
         ensures { λ r. ⌜ r ≡ flat-room (now (now (self .entry) .bytes)) ⌝ }
     {
         (self.bytes.len() as u64).min(LIMIT)
     }
 
     // Whether the memory holds the image at another size.
-    pub fn can_resize(&self, size: u64) -> bool
+    pub(crate) fn can_resize(&self, size: u64) -> bool
         ensures room { λ r. ⌜ r ≡ leb size (flat-room (now (now (self .entry) .bytes))) ⌝ }
         ensures held { λ r. ⌜ r ≡ flat-set (now (now (self .entry) .bytes)) (resized (take (now (self .entry) .size) (now (now (self .entry) .bytes))) size) ⌝ }
     {
         size <= self.room()
     }
 
-    pub fn get(&self, offset: usize, buf: &mut [u8])
+    pub(crate) fn get(&self, offset: usize, buf: &mut [u8])
         requires inside { ⌜ offset + length (now buf) ≤ now self .size ⌝ }
         requires fits { ⌜ now self .size ≤ flat-room (now (now self .bytes)) ⌝ }
         ensures { λ _. ⌜ now (buf .exit) ≡ part (take (now (self .entry) .size) (now (now (self .entry) .bytes))) offset (length (now (buf .entry))) ⌝ }
@@ -41,7 +41,7 @@ impl<'a> Memory<'a> {
         buf.copy_from_slice(&self.bytes[offset..end]);
     }
 
-    pub fn put(&mut self, offset: usize, bytes: &[u8])
+    pub(crate) fn put(&mut self, offset: usize, bytes: &[u8])
         requires inside { ⌜ offset + length (now bytes) ≤ now self .size ⌝ }
         requires fits { ⌜ now self .size ≤ flat-room (now (now self .bytes)) ⌝ }
         ensures changed { λ _. ⌜ Changed (now (self .entry) .size) (now (now (self .entry) .bytes)) (now (now (self .exit) .bytes)) (overwritten (take (now (self .entry) .size) (now (now (self .entry) .bytes))) offset (now (bytes .entry))) ⌝ }
@@ -52,7 +52,7 @@ impl<'a> Memory<'a> {
         self.bytes[offset..end].copy_from_slice(bytes);
     }
 
-    pub fn clear(&mut self, offset: usize, count: usize)
+    pub(crate) fn clear(&mut self, offset: usize, count: usize)
         requires inside { ⌜ offset + count ≤ now self .size ⌝ }
         requires fits { ⌜ now self .size ≤ flat-room (now (now self .bytes)) ⌝ }
         ensures changed { λ _. ⌜ Changed (now (self .entry) .size) (now (now (self .entry) .bytes)) (now (now (self .exit) .bytes)) (overwritten (take (now (self .entry) .size) (now (now (self .entry) .bytes))) offset (replicate count 0)) ⌝ }
@@ -63,7 +63,7 @@ impl<'a> Memory<'a> {
     }
 
     // Zeros from the size up to a larger one.
-    pub fn clear_growth(&mut self, size: usize)
+    pub(crate) fn clear_growth(&mut self, size: usize)
         requires room { ⌜ size ≤ flat-room (now (now self .bytes)) ⌝ }
         requires fits { ⌜ now self .size ≤ flat-room (now (now self .bytes)) ⌝ }
         ensures changed { λ _. ⌜ Changed size (now (now (self .entry) .bytes)) (now (now (self .exit) .bytes)) (resized (take (now (self .entry) .size) (now (now (self .entry) .bytes))) size) ⌝ }

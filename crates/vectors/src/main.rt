@@ -1,8 +1,10 @@
 // Runs cases from standard input against the proved calls, one to a line, and prints what came of each:
 //   check BYTES         `accepted`, or the five numbers of the fault
 //   list ROOM BYTES     the bytes written or the five numbers, and then the whole buffer
+//   join ROOM BYTES BYTES   the same of the join of an earlier stream and a later one
 // Bytes are in hexadecimal, `-` for none; a buffer holds AA everywhere before the call.
 use fault::Fault;
+use join::join;
 use listing::list;
 use std::alloc::Global;
 use std::error::AnyError;
@@ -97,14 +99,28 @@ fn run_list(rt: &LibcRuntime, room: &str, word: &str) -> Result<(), AnyError> {
     Ok(())
 }
 
+fn run_join(rt: &LibcRuntime, room: &str, first: &str, second: &str) -> Result<(), AnyError> {
+    let heap = rt.alloc();
+    let earlier = decoded(heap, first)?;
+    let later = decoded(heap, second)?;
+    let room = room.parse::<usize>()?;
+    let mut buffer = vec![in heap; 0xaau8; room]?;
+    let told = outcome(heap, join(&earlier, &later, &mut buffer))?;
+    let held = encoded(heap, &buffer)?;
+    println!(rt, "{told} {held}")?;
+    Ok(())
+}
+
 fn run_case(rt: &LibcRuntime, line: &str) -> Result<(), AnyError> {
     let mut words = line.split(' ');
     let call = words.next().unwrap_or("");
     let first = words.next().unwrap_or("");
     let second = words.next().unwrap_or("");
+    let third = words.next().unwrap_or("");
     match call {
         "check" => run_check(rt, first),
         "list" => run_list(rt, first, second),
+        "join" => run_join(rt, first, second, third),
         _ => Err("no such call".into()),
     }
 }

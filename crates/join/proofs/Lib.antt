@@ -1,0 +1,4 @@
+pub mod Readings
+pub mod Payloads
+pub mod Records
+pub mod Links

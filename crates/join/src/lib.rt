@@ -1,0 +1,41 @@
+// The join of two streams, and the canonical stream of one.
+ghost use mathlib.Core.Path.{_≡_};
+ghost use Rattle.fault.specs.Fault.{then};
+ghost use Rattle.fault.specs.declared.kinds.Layer.the-variants as layers;
+ghost use Rattle.stream.specs.Buffers.{filling, filled-by};
+ghost use Rattle.join.specs.Joins.{joined-stream};
+use fault::Cause;
+use fault::Fault;
+use fault::Layer;
+use joining::join_sources;
+use overlay::PayloadMark;
+use overlay::Run;
+use overlay::Side;
+use sources::NO_RUN;
+use sources::names_meet;
+use sources::read_entry;
+
+mod joining;
+mod lengths;
+mod parts;
+mod plans;
+mod sources;
+mod writing;
+
+// Joins two streams: writes the canonical stream of the join to the front of `out` and tells its
+// length. Refused, in this order: the earlier stream (entry 0), the later stream (entry 1), names that
+// do not meet, more than 512 canonical records, a buffer that is too short. A refusal leaves the buffer
+// alone.
+pub fn join(earlier: &[u8], later: &[u8], out: &mut [u8]) -> Result<usize, Fault>
+    ensures result { λ r. ⌜ r ≡ then (joined-stream (now (earlier .entry)) (now (later .entry))) (λ bytes. filling layers.Join (now (out .entry)) bytes) ⌝ }
+    ensures buffer { λ _. ⌜ now (out .exit) ≡ filled-by (joined-stream (now (earlier .entry)) (now (later .entry))) (now (out .entry)) ⌝ }
+{
+    let mut earlier_runs = [NO_RUN; 512];
+    let mut later_runs = [NO_RUN; 512];
+    let first = read_entry(earlier, Side::Earlier, 0, &mut earlier_runs)?;
+    let second = read_entry(later, Side::Later, 1, &mut later_runs)?;
+    if !names_meet(first, second) {
+        return Err(Fault::new(Cause::NamesDiffer, 0));
+    }
+    join_sources(first, second, Layer::Join, out)
+}
