@@ -1,74 +1,23 @@
-// A tour of the work: it writes a difference stream, checks it, lists it, and shows refusals.
-use fault::Cause;
+// A tour of the work: it writes a difference stream, checks it, lists it, shows refusals, and joins two streams.
 use fault::Fault;
+use join::join;
 use listing::list;
+use refusal::Refusal;
+use refusal::RefusalDisplay;
+use samples::write_cut;
+use samples::write_grown;
+use samples::write_sample;
 use std::error::AnyError;
-use std::fmt;
 use std::io::Write;
 use stream::check;
 use writer::Opened;
-use writer::RefusedFault;
 
-// A fault as it is shown to people: in words, and its five numbers.
-#[derive(Drop)]
-struct Refusal(Fault);
-
-impl fmt::Display for Refusal as RefusalDisplay {
-    fn fmt<W: fmt::Write>(&self, f: &mut fmt::Formatter<W>) -> fmt::Result {
-        let words = words_for(self.0.cause);
-        let cause = self.0.cause.number();
-        let layer = self.0.layer.number();
-        let place = self.0.place;
-        let record = self.0.record;
-        let entry = self.0.entry;
-        write!(
-            f,
-            "{words} (cause {cause}, layer {layer}, place {place}, record {record}, entry {entry})"
-        )
-    }
-}
-
-// What a cause says, in a few words.
-fn words_for(cause: Cause) -> &'static str {
-    match cause {
-        Cause::Header => "no stream: the header is missing",
-        Cause::Cut => "the stream is cut off",
-        Cause::UnknownTag => "unknown tag",
-        Cause::Misplaced => "metadata out of place",
-        Cause::Incomplete => "the to name or the size is missing",
-        Cause::BadName => "bad name",
-        Cause::TooLarge => "the size is above 2^40",
-        Cause::BadRange => "the range is empty or passes the size",
-        Cause::Overlap => "the range begins before the end of the one before it",
-        Cause::TooManyRecords => "more than 512 data records",
-        Cause::Trailing => "bytes after the end",
-        Cause::NamesDiffer => "the names do not meet",
-        Cause::TooManyRanges => "more than 512 canonical records",
-        Cause::ShortBuffer => "the buffer is too short",
-        Cause::Outside => "outside the image",
-        Cause::NoRoom => "the store cannot hold the result",
-        Cause::ShelfFull => "the shelf is full",
-        Cause::NoEntry => "no such entry",
-        Cause::NameTaken => "the name is taken",
-        Cause::Damaged => "the shelf's bytes are damaged",
-    }
-}
+mod refusal;
+mod samples;
 
 // The first `n` bytes, or all where there are fewer.
 fn front(bytes: &[u8], n: usize) -> &[u8] {
     if n < bytes.len() { &bytes[0..n] } else { bytes }
-}
-
-// Writes a difference of an image of 10 bytes, from snapshot `a` to snapshot `b`: four bytes from 2 on,
-// two from 6 on, and a zero at 9. Tells the stream's length.
-fn write_sample(out: &mut [u8]) -> Result<usize, Fault> {
-    let opened = Opened::new();
-    let recording = opened.names(out, b"a", b"b", 10)?;
-    let recording = recording.write(out, 2, b"WXYZ")?;
-    let recording = recording.write(out, 6, b"12")?;
-    let recording = recording.zero(out, 9, 1)?;
-    let ended = recording.end(out)?;
-    Ok(ended.length())
 }
 
 // Checks bytes, and says what they are called and what came of it.
@@ -129,20 +78,22 @@ fn show_refused_record(rt: &LibcRuntime) -> Result<(), AnyError> {
     Ok(())
 }
 
-fn tour(rt: &LibcRuntime) -> Result<(), AnyError> {
-    println!(
-        rt,
-        "Lovgwarzh: differences between snapshots of an image, checked and listed."
-    )?;
-    let mut out = [0u8; 128];
-    let n = match write_sample(&mut out) {
-        Ok(n) => n,
+// What was written, or the refusal, said before it ends the tour.
+fn written(rt: &LibcRuntime, r: Result<usize, Fault>) -> Result<usize, AnyError> {
+    match r {
+        Ok(n) => Ok(n),
         Err(f) => {
             let refusal = Refusal(f);
-            println!(rt, "the sample was refused: {refusal}")?;
-            return Err("the sample was refused".into());
+            println!(rt, "refused: {refusal}")?;
+            Err("a call of the tour was refused".into())
         }
-    };
+    }
+}
+
+// A stream that was written, checked and listed, and refusals.
+fn show_one_stream(rt: &LibcRuntime) -> Result<(), AnyError> {
+    let mut out = [0u8; 128];
+    let n = written(rt, write_sample(&mut out))?;
     println!(
         rt,
         "wrote a stream from snapshot a to snapshot b, image size 10: bytes WXYZ at 2, bytes 12 at 6, a zero at 9"
@@ -157,6 +108,42 @@ fn tour(rt: &LibcRuntime) -> Result<(), AnyError> {
     )?;
     show_check(rt, "the header alone", front(stream, 12))?;
     show_refused_record(rt)
+}
+
+// Two streams that follow each other, as one.
+fn show_join(rt: &LibcRuntime) -> Result<(), AnyError> {
+    let mut earlier = [0u8; 64];
+    let mut later = [0u8; 64];
+    let mut joined = [0u8; 128];
+    let n = written(rt, write_cut(&mut earlier))?;
+    let m = written(rt, write_grown(&mut later))?;
+    println!(
+        rt,
+        "wrote two more: from a to b the image is cut to 4 bytes; from b to c it grows to 10, with k at 8"
+    )?;
+    let k = written(rt, join(front(&earlier, n), front(&later, m), &mut joined))?;
+    println!(
+        rt,
+        "their join leads from a to c, {k} bytes; what grew back is zero, not what was there before"
+    )?;
+    show_list(rt, front(&joined, k))?;
+    match join(front(&later, m), front(&earlier, n), &mut joined) {
+        Ok(_) => println!(rt, "the two were joined the other way round")?,
+        Err(f) => {
+            let refusal = Refusal(f);
+            println!(rt, "the two the other way round: refused: {refusal}")?;
+        }
+    }
+    Ok(())
+}
+
+fn tour(rt: &LibcRuntime) -> Result<(), AnyError> {
+    println!(
+        rt,
+        "Lovgwarzh: differences between snapshots of an image, checked, listed and joined."
+    )?;
+    show_one_stream(rt)?;
+    show_join(rt)
 }
 
 fn main(rt: LibcRuntime) -> Result<(), AnyError> {
