@@ -179,6 +179,51 @@ def join(first, second, buffer):
     return into(buffer, canonical(result), 2)
 
 
+def flat(room):
+    """The set of images that a flat image over so much memory can hold."""
+    return lambda image: len(image) <= min(room, LIMIT)
+
+
+def paged(places, pages):
+    """The set of images that a paged image can hold."""
+    filled = lambda image: sum(any(image[i : i + 256]) for i in range(0, len(image), 256))
+    return lambda image: len(image) <= 256 * places and filled(image) <= pages
+
+
+def steps(records):
+    """What an apply asks of the store behind the resize: (canonical record, offset, bytes), a w part by part."""
+    parts = [record for record in records if record[0] == "w"]
+    for number, (offset, length, tag, _) in enumerate(ranges(records), 1):
+        if tag == "z":
+            yield number, offset, bytes(length)
+        else:
+            for _, start, payload in parts:
+                if offset <= start < offset + length:
+                    yield number, start, payload
+
+
+def apply(stream, name, image, holds):
+    """The fault's numbers or None, and the image afterwards: what came before a refusal stands."""
+    try:
+        records = read(stream)
+    except Refused as refused:
+        return refused.numbers, image
+    value = {record[0]: record[1] for record in records if record[0] in "fts"}
+    if value.get("f", b"") != name:
+        return [12, 2, 0, 0, 0], image
+    size = value["s"]
+    grown = image[:size] + bytes(max(0, size - len(image))) if size < 1 << 24 else None
+    if grown is None or not holds(grown):
+        return [16, 3, size, 0, 0], image
+    image = grown
+    for number, offset, payload in steps(records):
+        changed = image[:offset] + payload + image[offset + len(payload) :]
+        if not holds(changed):
+            return [16, 3, offset, number, 0], image
+        image = changed
+    return None, image
+
+
 def listed(stream, buffer):
     return into(buffer, text(ranges(read(stream))), 1)
 
