@@ -34,7 +34,7 @@ struct lovgwarzh_answer lovgwarzh_list(const uint8_t *stream, size_t n, uint8_t 
 /* Writes the join of an earlier stream and a later one to the front of `out`, which has `room` bytes. Bytes past the
  * joined stream keep what they held. A fault of the earlier stream has entry 0, one of the later entry 1; names that do
  * not meet are cause 12; too short a buffer is cause 14, and `place` is then the length that the joined stream needs.
- * The calls use up to half a megabyte of stack. */
+ * A join uses a few hundred kilobytes of stack. */
 struct lovgwarzh_answer lovgwarzh_join(const uint8_t *earlier, size_t n, const uint8_t *later, size_t m, uint8_t *out,
                                        size_t room);
 
