@@ -2,3 +2,9 @@ pub mod Readings
 pub mod Payloads
 pub mod Records
 pub mod Links
+pub mod Fewest
+pub mod Nothing
+pub mod Expressed
+pub mod Accepted
+pub mod Applying
+pub mod InTurn

@@ -3,7 +3,8 @@ ghost use mathlib.Core.Path.{_≡_};
 ghost use Rattle.fault.specs.Fault.{then};
 ghost use Rattle.fault.specs.declared.kinds.Layer.the-variants as layers;
 ghost use Rattle.stream.specs.Buffers.{filling, filled-by};
-ghost use Rattle.join.specs.Joins.{joined-stream};
+ghost use Rattle.join.specs.Joins.{joined-stream, canonical-stream};
+use canonical::write_source;
 use fault::Cause;
 use fault::Fault;
 use fault::Layer;
@@ -14,13 +15,20 @@ use overlay::Side;
 use sources::NO_RUN;
 use sources::names_meet;
 use sources::read_entry;
+use sources::read_source;
 
+mod canonical;
 mod joining;
+mod laws;
 mod lengths;
 mod parts;
 mod plans;
 mod sources;
 mod writing;
+
+pub use laws::laws_of_canonical_streams;
+pub use laws::laws_of_joins;
+pub use plans::joined_length;
 
 // Joins two streams: writes the canonical stream of the join to the front of `out` and tells its
 // length. Refused, in this order: the earlier stream (entry 0), the later stream (entry 1), names that
@@ -38,4 +46,15 @@ pub fn join(earlier: &[u8], later: &[u8], out: &mut [u8]) -> Result<usize, Fault
         return Err(Fault::new(Cause::NamesDiffer, 0));
     }
     join_sources(first, second, Layer::Join, out)
+}
+
+// Writes the canonical stream of a stream to the front of `out` and tells its length. Refused: the
+// stream, and then a buffer that is too short, which is left alone.
+pub fn write_canonical(stream: &[u8], out: &mut [u8]) -> Result<usize, Fault>
+    ensures result { λ r. ⌜ r ≡ then (canonical-stream (now (stream .entry))) (λ bytes. filling layers.Stream (now (out .entry)) bytes) ⌝ }
+    ensures buffer { λ _. ⌜ now (out .exit) ≡ filled-by (canonical-stream (now (stream .entry))) (now (out .entry)) ⌝ }
+{
+    let mut runs = [NO_RUN; 512];
+    let source = read_source(stream, Side::Later, &mut runs)?;
+    write_source(source, out)
 }

@@ -1,18 +1,25 @@
 ghost use mathlib.Core.Path.{_≡_};
-ghost use lib.ListN.{take};
+ghost use lib.ListN.{length, take};
+ghost use Rattle.fault.specs.Fault.{then};
 ghost use Rattle.overlay.specs.declared.payloads.Side.the-variants.{Earlier, Later};
 ghost use Rattle.overlay.specs.Runs.{Answers};
 ghost use Rattle.std.specs.Vec.{made};
+ghost use Rattle.std.specs.declared.result.Result.the-variants.{Ok};
 ghost use Rattle.stream.specs.Meaning.{ranges};
 ghost use Rattle.join.specs.Sources.{Sourced, source-join};
-ghost use Rattle.join.specs.Joins.{limited, plan-of};
+ghost use Rattle.join.specs.Joins.{limited, plan-of, joined-stream};
 use crate::lengths::stream_length;
+use crate::sources::NO_RUN;
 use crate::sources::Source;
+use crate::sources::names_meet;
+use crate::sources::read_entry;
 use fault::Cause;
 use fault::Fault;
+use overlay::PayloadMark;
 use overlay::RangeMark;
 use overlay::RangeMarks;
 use overlay::Run;
+use overlay::Side;
 use overlay::overlay;
 use stream::mark_ranges;
 
@@ -69,4 +76,21 @@ pub fn plan_join(
         count,
         length: stream_length(earlier.from, later.to, &records[0..count], later.size),
     })
+}
+
+// The length that the join of two streams has, which nothing is written of. Refused as the join is,
+// but for the buffer.
+pub fn joined_length(earlier: &[u8], later: &[u8]) -> Result<u64, Fault>
+    ensures { λ r. ⌜ r ≡ then (joined-stream (now (earlier .entry)) (now (later .entry))) (λ bytes. Ok (length bytes)) ⌝ }
+{
+    let mut earlier_runs = [NO_RUN; 512];
+    let mut later_runs = [NO_RUN; 512];
+    let first = read_entry(earlier, Side::Earlier, 0, &mut earlier_runs)?;
+    let second = read_entry(later, Side::Later, 1, &mut later_runs)?;
+    if !names_meet(first, second) {
+        return Err(Fault::new(Cause::NamesDiffer, 0));
+    }
+    let mut records = [NO_RANGE; 512];
+    let plan = plan_join(first, second, &mut records)?;
+    Ok(plan.length)
 }

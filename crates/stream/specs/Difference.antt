@@ -71,8 +71,8 @@ abbrev pub Good-from : List ℕ → Type 0
 Good-from [] = Unit {0}
 Good-from (b ∷ bs) = Good-name (b ∷ bs)
 
--- a difference that a stream may say: good names, a size of at most 2^40 and at most 512 ranges
-pub record Sayable (d : Difference) : Type 0 where
+-- a difference that a stream can express: good names, a size of at most 2^40 and at most 512 ranges
+pub record Expressible (d : Difference) : Type 0 where
   pub from-good : Good-from (d .from)
   pub to-good : Good-name (d .to)
   pub small : length (d .cells) ≤ 2 ^ 40

@@ -1,0 +1,49 @@
+-- A difference that keeps all, under another of its size. Assumes nothing.
+use mathlib.Core.Path.{_≡_, refl, sym, ap, _∙_}
+use mathlib.Core.List.{List, [], _∷_, map}
+use Prim.Native.Nat.{ℕ, zero, suc, _^_, _≤_, _<_}
+use native.Mathlib.Omega.{arith}
+use lib.ListN.{length, replicate}
+use Rattle.std.specs.Options.{mapped}
+use Rattle.std.specs.declared.option.Option.{Option}
+use Rattle.std.specs.declared.option.Option.the-variants.{Some, None}
+use Rattle.overlay.specs.declared.payloads.Side.{Side}
+use Rattle.overlay.specs.Marks.{payload-moves}
+use Rattle.overlay.specs.States.{overlaid}
+use Rattle.overlay.proofs.Overlaid.{over-nothing}
+use Rattle.overlay.proofs.Bridge.{painted-nothing}
+use Rattle.stream.specs.Meaning.{Cell, zeroed, ranges}
+use Rattle.stream.specs.Parts.{cell-of, parts-cells}
+use Rattle.join.specs.declared.sources.Source.{Source}
+use Rattle.join.specs.Sources.{source-cells, Sourced}
+use Rattle.join.proofs.Payloads.{length-cells}
+use Rattle.join.proofs.Fewest.{few-ranges}
+
+kept-mapped : {V W : Type 0} (f : V → W) (n : ℕ) → map (mapped f) (replicate n None) ≡ replicate n None
+kept-mapped f zero = refl
+kept-mapped f (suc n) = ap (λ ds. None ∷ ds) (kept-mapped f n)
+
+pub nothing-parts : (earlier later : List ℕ) (size : ℕ) → parts-cells earlier later [] size ≡ replicate size None
+nothing-parts earlier later size =
+    ap (map (mapped (cell-of earlier later))) (painted-nothing payload-moves size) ∙ kept-mapped (cell-of earlier later) size
+
+no-runs : (n : Source) → n .parts .now ≡ [] → source-cells n ≡ replicate (n .size) None
+unfolding source-cells
+no-runs n e = ap (λ ps. parts-cells (n .bytes .now) (n .bytes .now) ps (n .size)) e ∙ nothing-parts (n .bytes .now) (n .bytes .now) (n .size)
+
+length-source : (s : Source) → length (source-cells s) ≡ s .size
+unfolding source-cells
+length-source s = length-cells (s .bytes .now) (s .bytes .now) (s .parts .now) (s .size)
+
+-- a source over one without runs, of its size, is itself
+pub over-no-runs : (n s : Source) → n .parts .now ≡ [] → n .size ≡ s .size → overlaid zeroed (source-cells n) (source-cells s) ≡ source-cells s
+over-no-runs n s e f =
+    let none : source-cells n ≡ replicate (n .size) None = no-runs n e in
+    ap (λ ds. overlaid zeroed ds (source-cells s)) none ∙ over-nothing zeroed (n .size) (source-cells s) (length-source s ∙ sym f)
+
+-- a source has at most 512 ranges
+pub source-few : (side : Side) (s : Source) → Sourced side s → length (ranges (source-cells s)) ≤ 512
+unfolding source-cells
+source-few side s h =
+    let l = few-ranges (s .bytes .now) (s .bytes .now) (s .parts .now) (s .size) (omega (arith, h .small)) (h .rising) in
+    omega (arith, l, h .few)
