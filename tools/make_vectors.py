@@ -47,6 +47,17 @@ class Cases:
         except ref.Refused as refused:
             self.told.append(" ".join(map(str, refused.numbers)) + " " + shown(buffer))
 
+    def apply(self, store, holds, image, name, raw):
+        self.asked.append(f"{store} {shown(image)} {shown(name)} {shown(raw)}")
+        numbers, after = ref.apply(raw, name, image, holds)
+        self.told.append(("done" if numbers is None else " ".join(map(str, numbers))) + " " + shown(after))
+
+    def flat(self, room, image, name, raw):
+        self.apply(f"flat {room}", ref.flat(room), image, name, raw)
+
+    def paged(self, places, pages, image, name, raw):
+        self.apply(f"paged {places} {pages}", ref.paged(places, pages), image, name, raw)
+
     def merge(self, first, second, merged):
         """A join that Ceph's tool made too: its output, made canonical, is what has to come out."""
         wanted = ref.canonical(ref.meaning(merged))
@@ -148,6 +159,46 @@ def joins(cases):
     cases.join(stream(b"b", 4000, write(0, bytes(range(256)) * 8), origin=b"a"), stream(b"c", 4000, *[write(4 * i, bytes([i % 256])) for i in range(512)], origin=b"b"), 2200)
 
 
+def applies(cases):
+    digits = b"0123456789"
+    joined = ref.canonical(ref.joined(ref.meaning(stream(b"b", 4, origin=b"a")), ref.meaning(stream(b"c", 10, write(8, b"k"), origin=b"b"))))
+    for room in (10, 12):
+        cases.flat(room, digits, b"a", joined)
+    cases.flat(10, digits, b"b", joined)
+    cases.flat(10, digits, b"a", joined[:-1])
+    cases.flat(10, digits, b"a", stream(b"b", 11, write(0, b"x"), origin=b"a"))
+    cases.flat(10, digits, b"a", stream(b"b", 0, origin=b"a"))
+    cases.flat(10, b"", b"", stream(b"b", 10, write(2, b"ab"), write(4, b"cd"), zero(7, 2)))
+    cases.flat(5, b"12345", b"a", stream(b"b", LIMIT, origin=b"a"))
+    # three places, two pages: the third page does not fit, and what came before stands
+    two = bytes([1]) + bytes(255) + bytes([1]) + bytes(511)
+    cases.paged(3, 2, two, b"a", stream(b"b", 768, write(0, b"N"), write(512, b"k"), origin=b"a"))
+    cases.paged(3, 2, two, b"a", stream(b"b", 768, zero(0, 1), write(512, b"k"), origin=b"a"))
+    cases.paged(3, 2, two, b"a", stream(b"b", 768, write(255, b"ab"), write(257, b"c"), write(512, b"k"), origin=b"a"))
+    cases.paged(3, 2, two, b"a", stream(b"b", 769, origin=b"a"))
+    cases.paged(3, 2, two, b"a", stream(b"b", 256, origin=b"a"))
+    rng = random.Random(3)
+    for _ in range(150):
+        places, pages = rng.randint(0, 6), rng.randint(0, 4)
+        filled = sorted(rng.sample(range(places), min(places, pages, rng.randint(0, 4))))
+        image = bytearray(rng.randint(256 * filled[-1] + 1 if filled else 0, 256 * places))
+        for page in filled:
+            spot = min(256 * page + rng.randrange(256), len(image) - 1)
+            image[spot] = rng.randint(1, 255)
+        size = rng.choice([0, 1, 255, 256, 257, 600, 1000, 256 * places, 256 * places + 1])
+        data, at = [], 0
+        while len(data) < 8 and rng.random() < 0.85:
+            at += rng.choice([0, 0, 1, 100, 256])
+            length = rng.choice([1, 2, 100, 256, 300])
+            if at + length > size:
+                break
+            data.append(zero(at, length) if rng.random() < 0.4 else write(at, bytes(length) if rng.random() < 0.2 else rng.randbytes(length)))
+            at += length
+        raw = stream(b"b", size, *data, origin=b"a")
+        cases.paged(places, pages, bytes(image), b"a", raw)
+        cases.flat(rng.choice([len(image), 1000, 2000]) if len(image) <= 1000 else len(image), bytes(image), b"a", raw)
+
+
 def merges(cases):
     for line in (HOME / "data" / "merges.txt").read_text().splitlines():
         cases.merge(*map(bytes.fromhex, line.split()))
@@ -189,6 +240,7 @@ def main():
     cuts(cases, stream(b"b", 10, write(2, b"WXYZ"), zero(7, 2), write(9, b"q"), origin=b"a"))
     lists(cases)
     joins(cases)
+    applies(cases)
     merges(cases)
     damaged(cases, 1, 400)
     (HOME / "stdin").write_text("".join(line + "\n" for line in cases.asked))

@@ -1,0 +1,4 @@
+pub mod Ranged
+pub mod Turns
+pub mod Cursors
+pub mod Readings
