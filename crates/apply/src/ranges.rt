@@ -21,7 +21,7 @@ use overlay::payload;
 use store::Store;
 
 // Resizes the image: record 0.
-pub fn resize_first<S: Store>(size: u64, store: &mut S) -> Result<(), Fault>
+pub(crate) fn resize_first<S: Store>(size: u64, store: &mut S) -> Result<(), Fault>
     ensures same { λ _. ⌜ holds (now (store .exit)) ≡ holds (now (store .entry)) ⌝ }
     ensures outcome { λ r. ⌜ (r, image (now (store .exit))) ≡ in-record-of 0 (resize-outcome (holds (now (store .entry))) (image (now (store .entry))) size) ⌝ }
 {
@@ -105,7 +105,7 @@ fn parts_inside(parts: &[Run<PayloadMark>], next: usize, range: Run<RangeMark>) 
 
 // Applies ranges in turn, numbered from 1. Ranges and parts rise, so those parts that begin inside a
 // range lie behind those of the range before it.
-pub fn apply_ranges<S: Store>(
+pub(crate) fn apply_ranges<S: Store>(
     stream: StreamParts,
     ranges: &[Run<RangeMark>],
     store: &mut S,

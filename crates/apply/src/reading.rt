@@ -18,7 +18,7 @@ use stream::read;
 
 // Puts the ranges that the parts of a stream come to to the front of `out`, in rising order, and counts
 // them.
-pub fn sorted_ranges(stream: StreamParts, out: &mut Ranges) -> usize
+pub(crate) fn sorted_ranges(stream: StreamParts, out: &mut Ranges) -> usize
     requires { ⌜ Parted (now (stream .bytes)) (now (stream .parts)) (stream .size) ⌝ }
     ensures within { λ r. ⌜ r ≤ 1026 ⌝ }
     ensures rising { λ r. ⌜ Rising 0 (take r (now (out .exit))) (stream .entry .size) ⌝ }
@@ -45,7 +45,7 @@ fn leads_from(stream: &[u8], parts: &Parts, summary: Summary, name: &[u8]) -> bo
 }
 
 // Reads a stream that leads from a name; another is refused.
-pub fn read_from(stream: &[u8], name: &[u8], out: &mut Parts) -> Result<Summary, Fault>
+pub(crate) fn read_from(stream: &[u8], name: &[u8], out: &mut Parts) -> Result<Summary, Fault>
     ensures { λ r. ⌜ Reads-from (now (name .entry)) (now (stream .entry)) r (now (out .exit)) ⌝ }
 {
     let summary = read_parts(stream, out)?;

@@ -11,7 +11,7 @@ use fault::Layer;
 
 // Writes the canonical stream of a source to the front of `out`: its join over a difference of the
 // same size that keeps all.
-pub fn write_source(source: Source, out: &mut [u8]) -> Result<usize, Fault>
+pub(crate) fn write_source(source: Source, out: &mut [u8]) -> Result<usize, Fault>
     requires { ⌜ Sourced Later source ⌝ }
     ensures result { λ r. ⌜ r ≡ filling layers.Stream (now (out .entry)) (canonical (source-difference (source .entry))) ⌝ }
     ensures buffer { λ _. ⌜ now (out .exit) ≡ filled (now (out .entry)) (canonical (source-difference (source .entry))) ⌝ }

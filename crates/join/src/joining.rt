@@ -63,7 +63,7 @@ fn write_joined(earlier: Source, later: Source, records: &[Run<RangeMark>], out:
 // Writes the join of two sources to the front of `out` and tells its length; refuses more than 512
 // canonical records, and then, as a fault of `layer`, a buffer that is too short. A refusal leaves the
 // buffer alone.
-pub fn join_sources(
+pub(crate) fn join_sources(
     earlier: Source,
     later: Source,
     layer: Layer,

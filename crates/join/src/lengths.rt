@@ -8,7 +8,7 @@ use overlay::Run;
 use writer::from_length;
 
 // The bytes that a data record takes.
-pub fn record_length(run: Run<RangeMark>) -> u64
+pub(crate) fn record_length(run: Run<RangeMark>) -> u64
     requires { ⌜ run .length ≤ 2 ^ 40 ⌝ }
     ensures { λ r. ⌜ r ≡ record-length run ⌝ }
 {
@@ -19,7 +19,7 @@ pub fn record_length(run: Run<RangeMark>) -> u64
 }
 
 // The length of the canonical stream with these names and ranges.
-pub fn stream_length(from: &[u8], to: &[u8], records: &[Run<RangeMark>], size: u64) -> u64
+pub(crate) fn stream_length(from: &[u8], to: &[u8], records: &[Run<RangeMark>], size: u64) -> u64
     requires from_short { ⌜ length (now from) ≤ 64 ⌝ }
     requires to_short { ⌜ length (now to) ≤ 64 ⌝ }
     requires small { ⌜ size ≤ 2 ^ 40 ⌝ }

@@ -45,7 +45,7 @@ fn name_in(stream: &[u8], span: Span) -> &[u8]
 }
 
 // Reads a stream on a side of a join; its runs lie in `runs`.
-pub fn read_source<'s, 'r>(
+pub(crate) fn read_source<'s, 'r>(
     stream: &'s [u8],
     side: Side,
     runs: &'r mut [Run<PayloadMark>; 512],
@@ -65,7 +65,7 @@ pub fn read_source<'s, 'r>(
 }
 
 // The same of a stream that is an entry of a call, by whose number its fault is told.
-pub fn read_entry<'s, 'r>(
+pub(crate) fn read_entry<'s, 'r>(
     stream: &'s [u8],
     side: Side,
     entry: u64,
@@ -81,7 +81,7 @@ pub fn read_entry<'s, 'r>(
 }
 
 // Whether the later difference leads from where the earlier one leads to.
-pub fn names_meet(earlier: Source, later: Source) -> bool
+pub(crate) fn names_meet(earlier: Source, later: Source) -> bool
     ensures { λ r. ⌜ r ≡ same (now (later .entry .from)) (now (earlier .entry .to)) ⌝ }
 {
     later.from == earlier.to

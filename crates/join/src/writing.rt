@@ -118,7 +118,7 @@ fn put_records(
 }
 
 // Writes the canonical stream of a join, of which `records` are the ranges, to the front of `out`.
-pub fn put_stream(
+pub(crate) fn put_stream(
     joined: JoinedParts,
     from: &[u8],
     to: &[u8],

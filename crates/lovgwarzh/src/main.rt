@@ -1,4 +1,5 @@
-// A tour of the work: it writes a difference stream, checks it, lists it, shows refusals, and joins two streams.
+// A tour of the work: it writes a difference stream, checks it, lists it, shows refusals, joins two streams, and applies the join.
+use apply::apply;
 use fault::Fault;
 use join::join;
 use listing::list;
@@ -9,6 +10,9 @@ use samples::write_grown;
 use samples::write_sample;
 use std::error::AnyError;
 use std::io::Write;
+use store::FlatImage;
+use store::FlatStore;
+use store::Store;
 use stream::check;
 use writer::Opened;
 
@@ -110,6 +114,44 @@ fn show_one_stream(rt: &LibcRuntime) -> Result<(), AnyError> {
     show_refused_record(rt)
 }
 
+// Prints the bytes of an image, a zero as a dot.
+fn show_image<S: Store>(rt: &LibcRuntime, what: &str, image: &S) -> Result<(), AnyError> {
+    let mut bytes = [0u8; 10];
+    if image.size() != 10 || image.read(0, &mut bytes).is_err() {
+        return Err("the image does not have 10 bytes".into());
+    }
+    for b in bytes.iter_mut() {
+        if *b == 0 {
+            *b = b'.';
+        }
+    }
+    print!(rt, "{what}: ")?;
+    rt.stdout().write_all(&bytes)?;
+    println!(rt, "")?;
+    Ok(())
+}
+
+// Applies a stream to an image of ten digits that stands at snapshot a.
+fn show_apply(rt: &LibcRuntime, stream: &[u8]) -> Result<(), AnyError> {
+    let mut memory = *b"0123456789";
+    let mut image = FlatImage::open(&mut memory, 10);
+    show_image(rt, "an image at snapshot a", &image)?;
+    match apply(stream, b"b", &mut image) {
+        Ok(()) => println!(rt, "the join was applied to an image at another snapshot")?,
+        Err(f) => {
+            let refusal = Refusal(f);
+            println!(
+                rt,
+                "were it at snapshot b, the join would be refused: {refusal}"
+            )?;
+        }
+    }
+    match apply(stream, b"a", &mut image) {
+        Ok(()) => show_image(rt, "the join applied, zeros as dots", &image),
+        Err(_) => Err("the join was not applied".into()),
+    }
+}
+
 // Two streams that follow each other, as one.
 fn show_join(rt: &LibcRuntime) -> Result<(), AnyError> {
     let mut earlier = [0u8; 64];
@@ -127,6 +169,7 @@ fn show_join(rt: &LibcRuntime) -> Result<(), AnyError> {
         "their join leads from a to c, {k} bytes; what grew back is zero, not what was there before"
     )?;
     show_list(rt, front(&joined, k))?;
+    show_apply(rt, front(&joined, k))?;
     match join(front(&later, m), front(&earlier, n), &mut joined) {
         Ok(_) => println!(rt, "the two were joined the other way round")?,
         Err(f) => {
@@ -140,7 +183,7 @@ fn show_join(rt: &LibcRuntime) -> Result<(), AnyError> {
 fn tour(rt: &LibcRuntime) -> Result<(), AnyError> {
     println!(
         rt,
-        "Lovgwarzh: differences between snapshots of an image, checked, listed and joined."
+        "Lovgwarzh: differences between snapshots of an image, checked, listed, joined and applied."
     )?;
     show_one_stream(rt)?;
     show_join(rt)

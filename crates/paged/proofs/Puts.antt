@@ -8,7 +8,7 @@ use native.Mathlib.Omega.{arith}
 use native.Mathlib.Nat.{add-zero}
 use lib.Dec.{eqb}
 use lib.ListN.{length, take, drop, getD, replicate, length-take, length-drop, length-replicate}
-use Rattle.std.proofs.shelf.Lists.{getD-take, getD-drop, ext-getD, take-take, drop-take, drop-drop, getD-replicate, getD-past}
+use Rattle.std.proofs.shelf.Lists.{getD-take, getD-drop, ext-getD, take-take, drop-take, drop-drop, getD-past}
 use Rattle.std.proofs.shelf.Tests.{cases-lt, cases-eq, and-left, and-right}
 use Rattle.store.specs.Images.{overwritten}
 use Rattle.store.proofs.ImageLaws.{length-overwritten, overwritten-after, overwritten-before, overwritten-in}
@@ -33,7 +33,11 @@ page-value table pool i mapped here =
     ∙ ap (λ n. spot pool (getD table n 0) ((256 * i + r) % 256)) q ∙ ap (spot pool (getD table i 0)) m
     ∙ sym (page-spot pool (getD table i 0) r low))
 
-blank-append : (xs ys : List ℕ) → blank (xs ++ ys) ≡ (blank xs && blank ys)
+pub and-true : (t : Bool) → (t && true) ≡ t
+and-true true = refl
+and-true false = refl
+
+pub blank-append : (xs ys : List ℕ) → blank (xs ++ ys) ≡ (blank xs && blank ys)
 blank-append [] ys = refl
 blank-append (x ∷ xs) ys = both (eqb x 0) (blank (xs ++ ys)) (blank xs) (blank ys) (blank-append xs ys)
   where
@@ -184,6 +188,16 @@ module _ (table pool spare : List ℕ) (used i from : ℕ) (bytes : List ℕ) (s
         room = omega arith;
       }
 
+-- a page that is zeroed whole is blank
+pub blank-zeroed : (b : List ℕ) (i : ℕ) → blank (overwritten (page-of b i) 0 (replicate 256 0)) ≡ true
+blank-zeroed b i =
+    let page : List ℕ = page-of b i in
+    let zeros : List ℕ = replicate 256 0 in
+    let lz : length zeros ≡ 256 = length-replicate {A = ℕ} 256 0 in
+    let back : blank (drop (0 + length zeros) page) ≡ true = blank-all (drop (0 + length zeros) page)
+    (λ r. getD-drop (0 + length zeros) page r 0 ∙ getD-past page (0 + length zeros + r) 0 (omega (arith, length-take 256 (drop (256 * i) b)))) in
+    blank-over page 0 zeros ∙ (λ k. blank-zeros 256 k && back k)
+
 -- a page that becomes blank may as well be zeroed
 pub zeroed-page : (b : List ℕ) (i from : ℕ) (bytes : List ℕ) → from + length bytes ≤ 256 → 256 * i + 256 ≤ length b → blank (overwritten (page-of b i) from bytes) ≡ true → overwritten b (256 * i) (replicate 256 0) ≡ overwritten b (256 * i + from) bytes
 zeroed-page b i from bytes inside whole empty =
@@ -192,22 +206,11 @@ zeroed-page b i from bytes inside whole empty =
     let all : 0 + length zeros ≤ 256 = omega arith in
     let e : overwritten b (256 * i) zeros ≡ overwritten b (256 * i + 0) zeros = ap (λ o. overwritten b o zeros) (sym (add-zero (256 * i))) in
     let z : List ℕ = overwritten b (256 * i + 0) zeros in
-    let lp : length (page-of b i) ≡ 256 = simp (length-take, length-drop) (omega arith) in
-    let none : blank (page-of z i) ≡ true =
-    ap blank (page-over b i 0 zeros all whole)
-    ∙ blank-all (overwritten (page-of b i) 0 zeros)
-    (λ r.
-    ⊎-elim
-    (λ low. overwritten-in (page-of b i) 0 zeros (omega arith) r (omega arith) (omega arith) ∙ getD-replicate {A = ℕ} 256 (r - 0) 0 0 (omega arith))
-    (λ high. overwritten-after (page-of b i) 0 zeros (omega arith) r (omega arith) ∙ past-page r high)
-    (cases-lt r 256)) in
+    let none : blank (page-of z i) ≡ true = ap blank (page-over b i 0 zeros all whole) ∙ blank-zeroed b i in
     e ∙ page-settles z (overwritten b (256 * i + from) bytes) i
     (length-overwritten b (256 * i + 0) zeros (omega arith) ∙ sym (length-overwritten b (256 * i + from) bytes (omega arith)))
     (λ p ne. over-outside b i 0 zeros all whole p ne ∙ sym (over-outside b i from bytes inside whole p ne))
     none (ap blank (page-over b i from bytes inside whole) ∙ empty)
-  where
-    past-page : (r : ℕ) → 256 ≤ r → getD (page-of b i) r 0 ≡ 0
-    past-page r h = getD-past (page-of b i) r 0 (omega (arith, length-take 256 (drop (256 * i) b)))
 
 -- blank bytes leave a blank page
 pub kept-page : (b : List ℕ) (i from : ℕ) (bytes : List ℕ) → from + length bytes ≤ 256 → 256 * i + 256 ≤ length b → blank (page-of b i) ≡ true → blank (overwritten (page-of b i) from bytes) ≡ true → b ≡ overwritten b (256 * i + from) bytes

@@ -1,7 +1,7 @@
 -- What a change of the pages makes of the image. Rests on the laws of pages, of filled pages and of images.
-use mathlib.Core.Path.{_≡_, refl, sym, ap, _∙_}
+use mathlib.Core.Path.{_≡_, sym, ap, _∙_}
 use mathlib.Core.Logic.{⊎-elim}
-use mathlib.Core.Bool.{Bool, true, false, _&&_}
+use mathlib.Core.Bool.{_&&_}
 use mathlib.Core.List.{List}
 use Prim.Native.Nat.{ℕ, _+_, _-_, _*_, _≤_, _<_, min}
 use native.Mathlib.Omega.{arith}
@@ -14,6 +14,7 @@ use Rattle.store.proofs.ImageLaws.{getD-resized, length-overwritten, length-res
 use Rattle.paged.specs.Pages.{places, pool-pages, all-pages, filled-from, filled-pages, paged-set, Mapped, Apart, SpareIn, SpareApart, SpareFree, Filled, ZeroFrom, Ended, Unmapped, Sound, Valid}
 use Rattle.paged.specs.PageLaws.{length-all, length-image}
 use Rattle.paged.specs.FilledLaws.{filled-cut, filled-mono, page-blank}
+use Rattle.paged.proofs.Puts.{and-true}
 use Rattle.paged.specs.declared.image.PagedImage.{PagedImage}
 
 -- an image's pages are sound, and have the whole image
@@ -73,10 +74,6 @@ ghosts v = (v .long, (v .mapped, (v .apart, (v .spare-in, (v .spare-apart, (v .s
 pub by-count : (table pool image : List ℕ) → length image ≤ 256 * places table → paged-set table pool image ≡ leb (filled-pages image) (pool-pages pool)
 unfolding paged-set
 by-count table pool image short = ap (λ t. t && leb (filled-pages image) (pool-pages pool)) (le-leb (length image) (256 * places table) short)
-
-and-true : (t : Bool) → (t && true) ≡ t
-and-true true = refl
-and-true false = refl
 
 -- an image whose filled pages are few enough is in the set exactly if it is short enough
 pub by-length : (table pool image : List ℕ) → filled-pages image ≤ pool-pages pool → paged-set table pool image ≡ leb (length image) (256 * places table)

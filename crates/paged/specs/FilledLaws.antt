@@ -3,13 +3,13 @@ use mathlib.Core.Path.{_≡_, refl, sym, ap, _∙_}
 use mathlib.Core.Logic.{_≢_, ⊎-elim}
 use mathlib.Core.Bool.{Bool, true, false, cond}
 use mathlib.Core.List.{List, [], _∷_}
-use Prim.Native.Nat.{ℕ, zero, suc, _+_, _-_, _*_, _/_, _≤_, _<_}
+use Prim.Native.Nat.{ℕ, zero, suc, _+_, _*_, _/_, _≤_, _<_}
 use native.Mathlib.Omega.{arith}
 use lib.Dec.{eqb}
 use lib.ListN.{length, take, drop, getD, length-take, length-drop}
 use Rattle.std.proofs.shelf.Lists.{getD-take, getD-drop, getD-past, ext-getD, drop-drop}
 use Rattle.std.proofs.shelf.Tests.{cases-lt, eq-eqb, eqb-true, and-parts, both-ways}
-use Rattle.paged.specs.Pages.{page-of, blank, filled-from, filled-pages}
+use Rattle.paged.specs.Pages.{page-of, blank, filled-from, filled-pages, Ready}
 
 pub blank-all : (xs : List ℕ) → ((p : ℕ) → getD xs p 0 ≡ 0) → blank xs ≡ true
 blank-all [] z = refl
@@ -40,6 +40,12 @@ pub weight-small : (t : Bool) → cond t 0 1 ≤ 1
 weight-small true = omega arith
 weight-small false = omega arith
 
+pub weight-one : (t : Bool) → t ≡ false → _≡_ {A = ℕ} (cond t 0 1) 1
+weight-one t e = ap {B = ℕ} (λ t. cond t 0 1) e
+
+pub weight-none : (t : Bool) → t ≡ true → _≡_ {A = ℕ} (cond t 0 1) 0
+weight-none t e = ap {B = ℕ} (λ t. cond t 0 1) e
+
 pub filled-small : (n : ℕ) (a : List ℕ) → filled-from n a ≤ n
 filled-small zero a = omega arith
 filled-small (suc n) a = omega (arith, filled-small n (drop 256 a), weight-small (blank (take 256 a)))
@@ -57,6 +63,18 @@ filled-mono (suc n) zero a b h z = omega (arith, filled-zero (suc n) a (λ p. z 
 filled-mono (suc n) (suc m) a b h z =
     let first = weight-le (blank (take 256 a)) (blank (take 256 b)) (λ e. blank-all (take 256 a) (λ p. take-mono 256 a b p (h p) (blank-at (take 256 b) p e))) in
     let more = filled-mono n m (drop 256 a) (drop 256 b) (λ p e. getD-drop 256 a p 0 ∙ h (256 + p) (sym (getD-drop 256 b p 0) ∙ e)) (λ p l. getD-drop 256 a p 0 ∙ z (256 + p) (omega arith)) in
+    omega arith
+
+-- page i past the first one
+pub page-on : (c : List ℕ) (i : ℕ) → page-of (drop 256 c) i ≡ page-of c (suc i)
+page-on c i = ap (take 256) (drop-drop (256 * i) 256 c ∙ ap (λ m. drop m c) (omega arith))
+
+-- where each page that is blank in b is blank in a, a has no more filled pages
+pub filled-ready : (n : ℕ) (a b : List ℕ) → Ready a b → filled-from n a ≤ filled-from n b
+filled-ready zero a b h = omega arith
+filled-ready (suc n) a b h =
+    let first = weight-le (blank (take 256 a)) (blank (take 256 b)) (h 0) in
+    let more = filled-ready n (drop 256 a) (drop 256 b) (λ j e. ap blank (page-on a j) ∙ h (suc j) (sym (ap blank (page-on b j)) ∙ e)) in
     omega arith
 
 -- the filled pages of an image are those of its pages, if these hold zeros past its size
@@ -97,8 +115,7 @@ filled-step (suc n) (suc i) a b l e h =
     let less : length (drop 256 a) ≡ length (drop 256 b) = simp length-drop (omega arith) in
     let more = filled-step n i (drop 256 a) (drop 256 b) (omega arith) less
     (λ p q. getD-drop 256 a p 0 ∙ h (256 + p) (λ s. q (omega arith)) ∙ sym (getD-drop 256 b p 0)) in
-    let on : (c : List ℕ) → page-of (drop 256 c) i ≡ page-of c (suc i) = λ c. ap (take 256) (drop-drop (256 * i) 256 c ∙ ap (λ m. drop m c) (omega arith)) in
-    omega (arith, ap {B = ℕ} (λ c. cond (blank c) 0 1) first, ap {B = ℕ} (λ c. cond (blank c) 0 1) (on a), ap {B = ℕ} (λ c. cond (blank c) 0 1) (on b))
+    omega (arith, ap {B = ℕ} (λ c. cond (blank c) 0 1) first, ap {B = ℕ} (λ c. cond (blank c) 0 1) (page-on a i), ap {B = ℕ} (λ c. cond (blank c) 0 1) (page-on b i))
 
 pub page-blank : (a : List ℕ) (i : ℕ) → ((r : ℕ) → getD a (256 * i + r) 0 ≡ 0) → blank (page-of a i) ≡ true
 page-blank a i z = blank-all (page-of a i) (λ r. take-mono 256 (drop (256 * i) a) [] r (λ e. getD-drop (256 * i) a r 0 ∙ z r) refl)

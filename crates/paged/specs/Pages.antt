@@ -75,6 +75,10 @@ Filled table pool = (i : ℕ) → i < places table → blank (page-of (all-pages
 abbrev pub ZeroFrom : ℕ → List ℕ → Type 0
 ZeroFrom size bytes = (p : ℕ) → size ≤ p → getD bytes p 0 ≡ 0
 
+-- each page that is to have only zeros has only zeros
+abbrev pub Ready : List ℕ → List ℕ → Type 0
+Ready image result = (j : ℕ) → blank (page-of result j) ≡ true → blank (page-of image j) ≡ true
+
 -- past the size, each page holds 0
 abbrev pub Ended : List ℕ → List ℕ → ℕ → Type 0
 Ended table pool size = ZeroFrom size (all-pages table pool)

@@ -6,6 +6,7 @@ ghost use Rattle.paged.specs.State.{places-of, pool-of};
 
 mod ranges;
 mod steps;
+mod zeros;
 
 // The most map places and pool pages that an image uses.
 pub const PLACES: usize = 65536;
@@ -47,7 +48,7 @@ fn all_spare() -> [u16; POOL]
 
 impl<'a> Pages<'a> {
     // Pages of zeros at every place.
-    pub fn empty(map: &'a mut [u32], pool: &'a mut [u8]) -> Pages<'a>
+    pub(crate) fn empty(map: &'a mut [u32], pool: &'a mut [u8]) -> Pages<'a>
         ensures valid { λ r. ⌜ Valid (now (r .map)) (now (r .pool)) (r .spare) (r .used) 0 ⌝ }
         ensures same { λ r. ⌜ paged-set (now (r .map)) (now (r .pool)) ≡ paged-set (now (map .entry)) (now (pool .entry)) ⌝ }
         ensures pool { λ r. ⌜ now (r .pool) ≡ now (pool .entry) ⌝ }
@@ -63,14 +64,14 @@ impl<'a> Pages<'a> {
     }
 
     // The map places that may be used.
-    pub fn map_places(&self) -> usize
+    pub(crate) fn map_places(&self) -> usize
         ensures { λ r. ⌜ r ≡ places-of (now (self .entry)) ⌝ }
     {
         self.map.len().min(PLACES)
     }
 
     // The pool pages that may be used.
-    pub fn pool_pages(&self) -> usize
+    pub(crate) fn pool_pages(&self) -> usize
         ensures { λ r. ⌜ r ≡ pool-of (now (self .entry)) ⌝ }
     {
         (self.pool.len() / 256).min(POOL)

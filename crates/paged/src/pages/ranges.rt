@@ -1,10 +1,10 @@
 ghost use mathlib.Core.Path.{_≡_};
 ghost use mathlib.Core.Bool.{cond};
-ghost use Prim.Native.Nat.{ℕ, _+_, _*_, _≤_, _<_};
+ghost use Prim.Native.Nat.{_+_, _*_, _≤_, _<_};
 ghost use lib.Dec.{leb};
-ghost use lib.ListN.{length, getD, replicate};
+ghost use lib.ListN.{length, replicate};
 ghost use Rattle.store.specs.Images.{part, overwritten};
-ghost use Rattle.paged.specs.Pages.{filled-from};
+ghost use Rattle.paged.specs.Pages.{filled-from, Ready};
 ghost use Rattle.paged.specs.State.{places-of, pool-of, all-of, MappedIn, SoundIn, KeptBy};
 use crate::pages::Pages;
 
@@ -17,7 +17,7 @@ fn weight(blank: bool) -> usize
 
 impl<'a> Pages<'a> {
     // Fills the buffer with the bytes from an offset on.
-    pub fn read_range(&self, offset: usize, buf: &mut [u8])
+    pub(crate) fn read_range(&self, offset: usize, buf: &mut [u8])
         requires inside { ⌜ offset + length (now buf) ≤ 256 * places-of (now self) ⌝ }
         requires mapped { ⌜ MappedIn (now self) ⌝ }
         ensures { λ _. ⌜ now (buf .exit) ≡ part (all-of (now (self .entry))) offset (length (now (buf .entry))) ⌝ }
@@ -32,28 +32,46 @@ impl<'a> Pages<'a> {
     }
 
     // Puts zeros into a range.
-    pub fn zero_range(&mut self, offset: usize, count: usize)
+    pub(crate) fn zero_range(&mut self, offset: usize, count: usize)
         requires inside { ⌜ offset + count ≤ 256 * places-of (now self) ⌝ }
         requires sound { ⌜ SoundIn (now self) ⌝ }
         ensures sound { λ _. ⌜ SoundIn (now (self .exit)) ⌝ }
         ensures kept { λ _. ⌜ KeptBy (now (self .entry)) (now (self .exit)) ⌝ }
         ensures pages { λ _. ⌜ all-of (now (self .exit)) ≡ overwritten (all-of (now (self .entry))) offset (replicate count 0) ⌝ }
     {
-        let zeros = [0; 256];
         let mut done = 0;
         while done < count {
             let at = offset + done;
             let n = (256 - at % 256).min(count - done);
-            self.put(at / 256, at % 256, &zeros[0..n]);
+            self.put_zeros(at / 256, at % 256, n);
             done += n;
         }
     }
 
-    // Puts bytes into a range of zeros.
+    // Gives back the pool pages of those pages that would have only zeros with these bytes in the range.
+    fn clear_blanks(&mut self, offset: usize, bytes: &[u8])
+        requires inside { ⌜ offset + length (now bytes) ≤ 256 * places-of (now self) ⌝ }
+        requires sound { ⌜ SoundIn (now self) ⌝ }
+        ensures sound { λ _. ⌜ SoundIn (now (self .exit)) ⌝ }
+        ensures kept { λ _. ⌜ KeptBy (now (self .entry)) (now (self .exit)) ⌝ }
+        ensures same { λ _. ⌜ overwritten (all-of (now (self .exit))) offset (now (bytes .entry)) ≡ overwritten (all-of (now (self .entry))) offset (now (bytes .entry)) ⌝ }
+        ensures ready { λ _. ⌜ Ready (all-of (now (self .exit))) (overwritten (all-of (now (self .exit))) offset (now (bytes .entry))) ⌝ }
+    {
+        let mut done = 0;
+        while done < bytes.len() {
+            let at = offset + done;
+            let n = (256 - at % 256).min(bytes.len() - done);
+            self.clear_blank(at / 256, at % 256, &bytes[done..done + n]);
+            done += n;
+        }
+    }
+
+    // Puts bytes into a range whose result has no more filled pages than the pool has, and
+    // where each page that is to have only zeros has them by now.
     fn put_range(&mut self, offset: usize, bytes: &[u8])
         requires inside { ⌜ offset + length (now bytes) ≤ 256 * places-of (now self) ⌝ }
         requires sound { ⌜ SoundIn (now self) ⌝ }
-        requires clear { ⌜ ((p : ℕ) → offset ≤ p → p < offset + length (now bytes) → getD (all-of (now self)) p 0 ≡ 0) ⌝ }
+        requires ready { ⌜ Ready (all-of (now self)) (overwritten (all-of (now self)) offset (now bytes)) ⌝ }
         requires room { ⌜ filled-from (places-of (now self)) (overwritten (all-of (now self)) offset (now bytes)) ≤ pool-of (now self) ⌝ }
         ensures sound { λ _. ⌜ SoundIn (now (self .exit)) ⌝ }
         ensures kept { λ _. ⌜ KeptBy (now (self .entry)) (now (self .exit)) ⌝ }
@@ -70,7 +88,7 @@ impl<'a> Pages<'a> {
 
     // Puts bytes into a range whose result has no more filled pages than the pool has.
     // Pages that become blank are given back first.
-    pub fn write_range(&mut self, offset: usize, bytes: &[u8])
+    pub(crate) fn write_range(&mut self, offset: usize, bytes: &[u8])
         requires inside { ⌜ offset + length (now bytes) ≤ 256 * places-of (now self) ⌝ }
         requires sound { ⌜ SoundIn (now self) ⌝ }
         requires room { ⌜ filled-from (places-of (now self)) (overwritten (all-of (now self)) offset (now bytes)) ≤ pool-of (now self) ⌝ }
@@ -78,7 +96,7 @@ impl<'a> Pages<'a> {
         ensures kept { λ _. ⌜ KeptBy (now (self .entry)) (now (self .exit)) ⌝ }
         ensures pages { λ _. ⌜ all-of (now (self .exit)) ≡ overwritten (all-of (now (self .entry))) offset (now (bytes .entry)) ⌝ }
     {
-        self.zero_range(offset, bytes.len());
+        self.clear_blanks(offset, bytes);
         self.put_range(offset, bytes);
     }
 
@@ -101,7 +119,7 @@ impl<'a> Pages<'a> {
     }
 
     // Whether the pool has a page for each page that would be filled with these bytes in the range.
-    pub fn has_room(&self, offset: usize, bytes: &[u8]) -> bool
+    pub(crate) fn has_room(&self, offset: usize, bytes: &[u8]) -> bool
         requires inside { ⌜ offset + length (now bytes) ≤ 256 * places-of (now self) ⌝ }
         requires sound { ⌜ SoundIn (now self) ⌝ }
         ensures { λ r. ⌜ r ≡ leb (filled-from (places-of (now (self .entry))) (overwritten (all-of (now (self .entry))) offset (now (bytes .entry)))) (pool-of (now (self .entry))) ⌝ }

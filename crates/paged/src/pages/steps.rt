@@ -1,22 +1,12 @@
 ghost use mathlib.Core.Path.{_≡_};
+ghost use mathlib.Core.Bool.{cond};
 ghost use Prim.Native.Nat.{_+_, _*_, _≤_, _<_};
 ghost use lib.ListN.{length, set, replicate};
 ghost use Rattle.store.specs.Images.{part, overwritten};
 ghost use Rattle.paged.specs.Pages.{page-of, blank, filled-from};
 ghost use Rattle.paged.specs.State.{places-of, pool-of, value-of, all-of, MappedIn, PlacedIn, SoundIn, KeptBy};
 use crate::pages::Pages;
-
-// Whether there are only zeros.
-fn all_zero(bytes: &[u8]) -> bool
-    ensures { λ r. ⌜ r ≡ blank (now (bytes .entry)) ⌝ }
-{
-    for b in bytes {
-        if *b != 0 {
-            return false;
-        }
-    }
-    true
-}
+use crate::pages::zeros::all_zero;
 
 impl<'a> Pages<'a> {
     // Fills the buffer from the page of place i.
@@ -123,6 +113,17 @@ impl<'a> Pages<'a> {
         all_zero(&self.pool[end..at + 256])
     }
 
+    // Leaves only zeros in the page of place i, in constant time: its bytes are not read.
+    fn clear(&mut self, i: usize)
+        requires here { ⌜ i < places-of (now self) ⌝ }
+        requires sound { ⌜ SoundIn (now self) ⌝ }
+        ensures sound { λ _. ⌜ SoundIn (now (self .exit)) ⌝ }
+        ensures kept { λ _. ⌜ KeptBy (now (self .entry)) (now (self .exit)) ⌝ }
+        ensures pages { λ _. ⌜ all-of (now (self .exit)) ≡ overwritten (all-of (now (self .entry))) (256 * i) (replicate 256 0) ⌝ }
+    {
+        self.unmap(i);
+    }
+
     // Puts bytes into the page of place i, which has a pool page exactly while it has a non-zero byte.
     pub(super) fn put(&mut self, i: usize, from: usize, bytes: &[u8])
         requires here { ⌜ (i < places-of (now self)) × (from + length (now bytes) ≤ 256) ⌝ }
@@ -133,7 +134,7 @@ impl<'a> Pages<'a> {
         ensures pages { λ _. ⌜ all-of (now (self .exit)) ≡ overwritten (all-of (now (self .entry))) (256 * i + from) (now (bytes .entry)) ⌝ }
     {
         if self.blank_with(i, from, bytes) {
-            self.unmap(i);
+            self.clear(i);
             return;
         }
         if self.map[i] != 0 {
@@ -142,5 +143,38 @@ impl<'a> Pages<'a> {
         }
         self.claim(i);
         self.store(i, from, bytes);
+    }
+
+    // Leaves only zeros in the page of place i if it would have only zeros with these bytes in it.
+    pub(super) fn clear_blank(&mut self, i: usize, from: usize, bytes: &[u8])
+        requires here { ⌜ (i < places-of (now self)) × (from + length (now bytes) ≤ 256) ⌝ }
+        requires sound { ⌜ SoundIn (now self) ⌝ }
+        ensures sound { λ _. ⌜ SoundIn (now (self .exit)) ⌝ }
+        ensures kept { λ _. ⌜ KeptBy (now (self .entry)) (now (self .exit)) ⌝ }
+        ensures pages { λ _. ⌜ all-of (now (self .exit)) ≡ cond (blank (overwritten (page-of (all-of (now (self .entry))) i) from (now (bytes .entry)))) (overwritten (all-of (now (self .entry))) (256 * i + from) (now (bytes .entry))) (all-of (now (self .entry))) ⌝ }
+    {
+        if self.map[i] == 0 {
+            return;
+        }
+        if !self.blank_with(i, from, bytes) {
+            return;
+        }
+        self.clear(i);
+    }
+
+    // Puts zeros into the page of place i. Only a page that is not zeroed whole is looked at.
+    pub(super) fn put_zeros(&mut self, i: usize, from: usize, count: usize)
+        requires here { ⌜ (i < places-of (now self)) × (from + count ≤ 256) ⌝ }
+        requires sound { ⌜ SoundIn (now self) ⌝ }
+        ensures sound { λ _. ⌜ SoundIn (now (self .exit)) ⌝ }
+        ensures kept { λ _. ⌜ KeptBy (now (self .entry)) (now (self .exit)) ⌝ }
+        ensures pages { λ _. ⌜ all-of (now (self .exit)) ≡ overwritten (all-of (now (self .entry))) (256 * i + from) (replicate count 0) ⌝ }
+    {
+        if count == 256 {
+            self.clear(i);
+            return;
+        }
+        let zeros = [0; 256];
+        self.put(i, from, &zeros[0..count]);
     }
 }

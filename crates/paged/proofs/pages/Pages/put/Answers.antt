@@ -1,65 +1,31 @@
 use mathlib.Core.Path.{_≡_, sym, ap, _∙_}
-use mathlib.Core.Bool.{Bool, true, false, cond}
-use mathlib.Core.Logic.{⊎-elim}
+use mathlib.Core.Bool.{false}
 use mathlib.Core.List.{List}
-use Prim.Native.Nat.{ℕ, _+_, _*_, _<_}
+use Prim.Native.Nat.{ℕ, _+_, _*_}
 use native.Mathlib.Omega.{arith}
 use lib.Dec.{eqb}
 use lib.ListN.{getD}
-use Rattle.std.proofs.shelf.Lists.{getD-set-same, getD-set-other}
-use Rattle.std.proofs.shelf.Tests.{cases-eq, eq-eqb, ne-eqb}
+use Rattle.std.proofs.shelf.Lists.{getD-set-other}
+use Rattle.std.proofs.shelf.Tests.{eq-eqb, ne-eqb}
 use Rattle.store.specs.Images.{overwritten}
-use Rattle.paged.specs.Pages.{all-pages, places}
+use Rattle.paged.specs.Pages.{all-pages}
 use Rattle.paged.proofs.Steps.{kept-on}
+use Rattle.paged.specs.FilledLaws.{weight-one, weight-none}
 use Rattle.paged.proofs.Puts.{put-count, sound-put, page-fits, zeroed-page}
 use Rattle.paged.proofs.pages.Pages.put.Needs as need
-
-one : (t : Bool) → t ≡ false → _≡_ {A = ℕ} (cond t 0 1) 1
-one t e = ap {B = ℕ} (λ t. cond t 0 1) e
-
-none : (t : Bool) → t ≡ true → _≡_ {A = ℕ} (cond t 0 1) 0
-none t e = ap {B = ℕ} (λ t. cond t 0 1) e
-
-pub unmap-requires : need.unmap-requires
-unmap-requires c κs =
-    let s = c .args .self .now in
-    let i : ℕ = c .args .i in
-    let count = put-count (s .map .now) (s .pool .now) (s .spare) (s .used) i (c .args .from) (c .args .bytes .now) (c .pre .sound) (c .pre .here .0) (c .pre .here .1) in
-    record {
-      here = c .pre .here .0;
-      some = λ h. omega (arith, one _ (ne-eqb (getD (s .map .now) i 0) 0 (λ e. omega arith)), none _ (sym (c .if-blank-with .ensures tt)));
-      most = c .pre .sound .room;
-      placed = c .pre .sound .placed;
-    }
 
 pub returns-then-blank-with : need.returns-then-blank-with
 returns-then-blank-with c =
     let s = c .args .self .now in
-    let t = c .unmap .last .self in
-    let table : List ℕ = s .map .now in
     let i : ℕ = c .args .i in
     let from : ℕ = c .args .from in
     let bytes : List ℕ = c .args .bytes .now in
-    let here : i < places table = c .pre .here .0 in
-    let told = c .unmap .ensures in
-    let fits = page-fits table (s .pool .now) (s .spare) (s .used) i from bytes (c .pre .sound) here (c .pre .here .1) in
-    let pages = told .pages ∙ zeroed-page (all-pages table (s .pool .now)) i from bytes (c .pre .here .1) fits (sym (c .if-blank-with .ensures tt)) in
-    let gone : getD (t .map .now) i 0 ≡ 0 = ap (λ m. getD m i 0) (told .map) ∙ getD-set-same table i 0 0 (omega arith) in
-    let now-none = none _ (eq-eqb (getD (t .map .now) i 0) 0 gone) in
-    let step : t .used + cond (eqb (getD table i 0) 0) 0 1 ≡ s .used + cond (eqb (getD (t .map .now) i 0) 0) 0 1 =
-    ⊎-elim
-    (λ (is : getD table i 0 ≡ 0). omega (arith, told .none is, none _ (eq-eqb (getD table i 0) 0 is)))
-    (λ (ne : getD table i 0 ≡ 0 → ⊥). omega (arith, told .freed (omega arith), one _ (ne-eqb (getD table i 0) 0 ne)))
-    (cases-eq (getD table i 0) 0) in
+    let told = c .clear .ensures in
+    let fits = page-fits (s .map .now) (s .pool .now) (s .spare) (s .used) i from bytes (c .pre .sound) (c .pre .here .0) (c .pre .here .1) in
     record {
-      sound = sound-put table (s .pool .now) (s .spare) (s .used) i from bytes (c .pre .sound) here (c .pre .here .1) (t .map .now) (t .pool .now) (t .spare) (t .used)
-          (told .placed) (told .kept) pages
-          (λ j ne. ap (λ m. getD m j 0) (told .map) ∙ getD-set-other table i j 0 0 ne)
-          (sym (c .if-blank-with .ensures tt) ∙ sym (eq-eqb (getD (t .map .now) i 0) 0 gone))
-          step
-          (c .pre .room);
+      sound = told .sound;
       kept = told .kept;
-      pages = pages;
+      pages = told .pages ∙ zeroed-page (all-pages (s .map .now) (s .pool .now)) i from bytes (c .pre .here .1) fits (sym (c .if-blank-with .ensures tt));
     }
 
 pub returns-then-self-i-ne0 : need.returns-then-self-i-ne0
@@ -76,7 +42,7 @@ returns-then-self-i-ne0 c =
           (told .placed) (told .kept) (told .pages)
           (λ j ne. ap (λ m. getD m j 0) (told .map))
           (sym (c .if-blank-with .ensures tt) ∙ sym still)
-          (omega (arith, told .used, one _ some, one _ still))
+          (omega (arith, told .used, weight-one _ some, weight-one _ still))
           (c .pre .room);
       kept = told .kept;
       pages = told .pages;
@@ -89,7 +55,7 @@ claim-requires c κs =
     let count = put-count (s .map .now) (s .pool .now) (s .spare) (s .used) i (c .args .from) (c .args .bytes .now) (c .pre .sound) (c .pre .here .0) (c .pre .here .1) in
     record {
       here = (c .pre .here .0, c .if-self-i-ne0 .left);
-      room = omega (arith, none _ (eq-eqb (getD (s .map .now) i 0) 0 (c .if-self-i-ne0 .left)), one _ (sym (c .if-blank-with .ensures tt)), c .pre .room);
+      room = omega (arith, weight-none _ (eq-eqb (getD (s .map .now) i 0) 0 (c .if-self-i-ne0 .left)), weight-one _ (sym (c .if-blank-with .ensures tt)), c .pre .room);
       placed = c .pre .sound .placed;
     }
 
@@ -112,7 +78,7 @@ returns c =
           (told .placed) kept pages
           (λ j ne. ap (λ m. getD m j 0) (told .map ∙ new .map) ∙ getD-set-other table i j (getD (t .map .now) i 0) 0 ne)
           (sym (c .if-blank-with .ensures tt) ∙ sym (ne-eqb (getD (u .map .now) i 0) 0 some))
-          (omega (arith, told .used, new .used, none _ (eq-eqb (getD table i 0) 0 (c .if-self-i-ne0 .left)), one _ (ne-eqb (getD (u .map .now) i 0) 0 some)))
+          (omega (arith, told .used, new .used, weight-none _ (eq-eqb (getD table i 0) 0 (c .if-self-i-ne0 .left)), weight-one _ (ne-eqb (getD (u .map .now) i 0) 0 some)))
           (c .pre .room);
       kept = kept;
       pages = pages;

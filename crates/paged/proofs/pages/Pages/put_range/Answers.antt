@@ -62,7 +62,7 @@ put-requires c κs =
     let width : places (t .map .now) ≡ places (s .map .now) = ap (λ m. min m 65536) (inv .2 .map-length) in
     let depth : pool-pages (t .pool .now) ≡ pool-pages (s .pool .now) = ap (λ m. min (m / 256) 65535) (inv .2 .pool-length) in
     let after = ap (λ o. overwritten mid o chunk) place ∙ ap (λ b. overwritten b (offset + done) chunk) (inv .3) ∙ over-chunk old offset bytes done n most room in
-    let less = part-fills-less (places (s .map .now)) old offset bytes (done + n) most room long (c .pre .clear) in
+    let less = part-fills-less (places (s .map .now)) old offset bytes (done + n) most room (c .pre .ready) (λ h. omega arith) in
     let same = ap (filled-from (places (t .map .now))) after ∙ ap (λ m. filled-from m (overwritten old offset (take (done + n) bytes))) width in
     record {
       here = (omega (arith, c .pre .inside), omega arith);

@@ -1,14 +1,14 @@
 use mathlib.Core.Path.{_≡_, ap, _∙_}
 use mathlib.Core.List.{List}
-use Prim.Native.Nat.{ℕ, _+_, _-_, _*_, _/_, _%_, _≤_, min}
+use Prim.Native.Nat.{ℕ, _+_, _*_, _/_, _%_, _≤_, min}
 use native.Mathlib.Omega.{arith}
-use lib.ListN.{length, take, replicate, length-take, length-replicate}
+use lib.ListN.{length, replicate}
 use Rattle.store.specs.Images.{overwritten}
 use Rattle.store.proofs.ImageLaws.{overwritten-none}
-use Rattle.paged.specs.Pages.{all-pages, places}
+use Rattle.paged.specs.Pages.{all-pages}
 use Rattle.paged.specs.PageLaws.{length-all}
 use Rattle.paged.proofs.Steps.{kept-none, kept-on}
-use Rattle.paged.proofs.Ranges.{over-more, zeros-part, zeros-blank, zeros-fill-less}
+use Rattle.paged.proofs.Ranges.{over-more}
 use Rattle.paged.proofs.pages.Pages.zero_range.Needs as need
 
 pub loop-done-holds : need.loop-done-holds
@@ -20,44 +20,31 @@ pub loop-done-again : need.loop-done-again
 loop-done-again c =
     let s = c .args .self .now in
     let t = c .loop-done .self in
-    let u = c .put .last .self in
+    let u = c .put-zeros .last .self in
     let offset : ℕ = c .args .offset in
     let done : ℕ = c .loop-done .done in
     let n : ℕ = c .min-n .result in
     let inv = c .loop-done .inv in
-    let put = c .put .ensures in
+    let put = c .put-zeros .ensures in
     let size = c .min-n .ensures in
     let old : List ℕ = all-pages (s .map .now) (s .pool .now) in
     let mid : List ℕ = all-pages (t .map .now) (t .pool .now) in
     let place : 256 * ((offset + done) / 256) + (offset + done) % 256 ≡ offset + done = omega arith in
-    let short : n ≤ 256 = omega arith in
     let room : offset + done + n ≤ length old = omega (arith, length-all (s .map .now) (s .pool .now) (c .pre .sound .placed .mapped), c .pre .inside) in (
       omega arith,
       put .sound,
       kept-on (s .map .now) (s .pool .now) (t .map .now) (t .pool .now) (u .map .now) (u .pool .now) (inv .2) (put .kept),
-      put .pages ∙ ap (λ o. overwritten mid o (take (n - 0) (replicate {A = ℕ} 256 0))) place ∙ ap (overwritten mid (offset + done)) (zeros-part n short)
-          ∙ ap (λ b. overwritten b (offset + done) (replicate n 0)) (inv .3) ∙ over-more old offset done n room,
+      put .pages ∙ ap (λ o. overwritten mid o (replicate n 0)) place ∙ ap (λ b. overwritten b (offset + done) (replicate n 0)) (inv .3) ∙ over-more old offset done n room,
     )
 
-pub put-requires : need.put-requires
-put-requires c κs =
-    let t = c .loop-done .self in
+pub put-zeros-requires : need.put-zeros-requires
+put-zeros-requires c κs =
     let inv = c .loop-done .inv in
-    let offset : ℕ = c .args .offset in
-    let done : ℕ = c .loop-done .done in
-    let n : ℕ = c .min-n .result in
     let size = c .min-n .ensures in
-    let short : n ≤ 256 = omega arith in
-    let zs : List ℕ = take (n - 0) (replicate {A = ℕ} 256 0) in
-    let lz : length zs ≡ n = omega (arith, length-take (n - 0) (replicate {A = ℕ} 256 0), length-replicate {A = ℕ} 256 0) in
-    let long = length-all (t .map .now) (t .pool .now) (inv .1 .placed .mapped) in
     let width = ap (λ m. min m 65536) (inv .2 .map-length) in
-    let at : ℕ = 256 * ((offset + done) / 256) + (offset + done) % 256 in
-    let less = zeros-fill-less (places (t .map .now)) (all-pages (t .map .now) (t .pool .now)) at zs (zeros-blank n short) (omega (arith, c .pre .inside)) long in
     record {
       here = (omega (arith, c .pre .inside), omega arith);
       sound = inv .1;
-      room = omega (arith, inv .1 .counted, inv .1 .room);
     }
 
 pub returns : need.returns
