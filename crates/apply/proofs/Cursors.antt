@@ -1,7 +1,7 @@
 -- The parts that begin inside a range lie side by side, behind those of the ranges before it. Rests on the steps and on rising runs.
-use mathlib.Core.Path.{_≡_, refl, sym, ap, ap₂, subst, _∙_}
-use mathlib.Core.Bool.{Bool, true, false, cond, _&&_}
-use mathlib.Core.Logic.{_⊎_, inl, inr}
+use mathlib.Core.Path.{_≡_, refl, sym, ap, ap₂, _∙_}
+use mathlib.Core.Bool.{_&&_}
+use mathlib.Core.Logic.{inl, inr}
 use mathlib.Core.List.{List, [], _∷_, _++_, map}
 use Prim.Native.Nat.{ℕ, zero, suc, _+_, _-_, _≤_, _<_}
 use native.Mathlib.Omega.{arith}
@@ -9,7 +9,7 @@ use native.Mathlib.Numerals.{one-add}
 use lib.Dec.{leb, ltb}
 use lib.ListN.{length, take, drop, getD}
 use Rattle.std.specs.shelf.Lists.{leading}
-use Rattle.std.proofs.shelf.Lists.{drop-drop}
+use Rattle.std.proofs.shelf.Lists.{drop-drop, drop-more}
 use Rattle.std.proofs.shelf.Tests.{cases-lt, lt-ltb, le-ltb, le-leb, lt-leb, cond-true, cond-false, and-from, and-left, and-right}
 use Rattle.overlay.specs.declared.runs.Run.{Run}
 use Rattle.overlay.specs.declared.ranges.RangeMark.{RangeMark}
@@ -21,7 +21,7 @@ use Rattle.overlay.proofs.Painted.{rising-lower, rising-drop}
 use Rattle.stream.specs.Records.{Content}
 use Rattle.stream.specs.Places.{held, held-by}
 use Rattle.stream.specs.Parts.{Payload-in, Payloads-in}
-use Rattle.apply.specs.Steps.{Step, numbered, handed, begins, begun-in, steps-from}
+use Rattle.apply.specs.Steps.{numbered, handed, begins, begun-in, steps-from}
 use Rattle.apply.specs.declared.parts.Window.{Window}
 use Rattle.apply.specs.Read.{before, Inside}
 
@@ -121,6 +121,10 @@ begun-are xs offset n a b (r ∷ rs) h =
           ∙ sym (ap (λ ys. map (held xs) (take (leading (before (offset + n)) ys) ys)) (since-no offset r rs k))
     ]
 
+-- the range at i, and those behind it
+pub rising-at : (rs : List (Run RangeMark)) (i : ℕ) (d : Run RangeMark) (b : ℕ) → i < length rs → Rising 0 rs b → Rising 0 (getD rs i d ∷ drop (i + 1) rs) b
+rising-at rs i d b l h = rw (drop-more rs i d l) at (rising-drop b i rs h)
+
 -- the payloads of a part, and of some parts
 pub payload-getD : (side : Side) (xs : List ℕ) (rs : List (Run PayloadMark)) (i : ℕ) (d : Run PayloadMark) → Payloads-in side xs rs → i < length rs
     → Payload-in side xs (getD rs i d .mark) (getD rs i d .length)
@@ -138,21 +142,26 @@ payloads-take side xs zero rs h = tt
 payloads-take side xs (suc n) [] h = tt
 payloads-take side xs (suc n) (r ∷ rs) h = (h .0, payloads-take side xs n rs (h .1))
 
--- one turn: the steps of the first range are those of the parts in its window, and the others those of the parts behind it
-pub window-steps : (xs : List ℕ) (parts : List (Run PayloadMark)) (next b i : ℕ) (r : Run RangeMark) (rest : List (Run RangeMark)) (size : ℕ) (w : Window)
-    → Rising 0 parts b → Rising (ends r) rest size → Inside parts next r w
-    → steps-from i (map (held xs) (drop next parts)) (r ∷ rest)
-    ≡ numbered i (handed (r .mark) (r .offset) (r .length) (map (held xs) (take (w .end - w .first) (drop (w .first) parts)))) ++ steps-from (i + 1) (map (held xs) (drop (w .end) parts)) rest
-window-steps xs parts next b i r rest size w rising later inside =
+-- the steps of the range at i are those of the parts in its window, and those behind it are of the parts behind the window
+pub window-steps : (bytes : List ℕ) (parts : List (Run PayloadMark)) (next b n : ℕ) (rs : List (Run RangeMark)) (i : ℕ) (d : Run RangeMark) (size : ℕ) (w : Window)
+    → i < length rs → Rising 0 parts b → Rising 0 rs size → Inside parts next (getD rs i d) w
+    → steps-from n (map (held bytes) (drop next parts)) (drop i rs)
+    ≡ numbered n (handed (getD rs i d .mark) (getD rs i d .offset) (getD rs i d .length) (map (held bytes) (take (w .end - w .first) (drop (w .first) parts))))
+    ++ steps-from (n + 1) (map (held bytes) (drop (w .end) parts)) (drop (i + 1) rs)
+window-steps bytes parts next b n rs i d size w l rising rise inside =
     let left = drop next parts in
+    let r = getD rs i d in
+    let rest = drop (i + 1) rs in
+    let later = rising-at rs i d size l rise .2 in
     let first : drop (w .first) parts ≡ since (r .offset) left = ap (λ k. drop k parts) (inside .first) ∙ sym (drop-drop (leading (before (r .offset)) left) next parts) in
     let end : drop (w .end) parts ≡ since (ends r) (since (r .offset) left) =
     ap (λ k. drop k parts) (inside .end) ∙ sym (drop-drop (leading (before (ends r)) (drop (w .first) parts)) (w .first) parts) ∙ ap (since (ends r)) first in
     let count : w .end - w .first ≡ leading (before (ends r)) (drop (w .first) parts) = omega (arith, inside .end) in
     let cut : take (w .end - w .first) (drop (w .first) parts) ≡ take (leading (before (ends r)) (since (r .offset) left)) (since (r .offset) left) =
     ap (λ k. take k (drop (w .first) parts)) count ∙ ap (λ ys. take (leading (before (ends r)) ys) ys) first in
-    ap₂ (λ cs ss. numbered i (handed (r .mark) (r .offset) (r .length) cs) ++ ss)
-    (begun-are xs (r .offset) (r .length) 0 b left (rising-drop b next parts rising) ∙ ap (map (held xs)) (sym cut))
-    (sym (steps-since xs (r .offset) size (i + 1) left rest (rising-lower (ends r) (r .offset) size rest later (omega arith)))
-    ∙ sym (steps-since xs (ends r) size (i + 1) (since (r .offset) left) rest later)
-    ∙ ap (λ ys. steps-from (i + 1) (map (held xs) ys) rest) (sym end))
+    ap (steps-from n (map (held bytes) left)) (drop-more rs i d l)
+    ∙ ap₂ (λ cs ss. numbered n (handed (r .mark) (r .offset) (r .length) cs) ++ ss)
+    (begun-are bytes (r .offset) (r .length) 0 b left (rising-drop b next parts rising) ∙ ap (map (held bytes)) (sym cut))
+    (sym (steps-since bytes (r .offset) size (n + 1) left rest (rising-lower (ends r) (r .offset) size rest later (omega arith)))
+    ∙ sym (steps-since bytes (ends r) size (n + 1) (since (r .offset) left) rest later)
+    ∙ ap (λ ys. steps-from (n + 1) (map (held bytes) ys) rest) (sym end))

@@ -2,3 +2,10 @@ pub mod Ranged
 pub mod Turns
 pub mod Cursors
 pub mod Readings
+pub mod Kept
+pub mod Outcomes
+pub mod Stepped
+pub mod Spans
+pub mod Sounds
+pub mod Covered
+pub mod Lawful

@@ -28,7 +28,7 @@ use Rattle.stream.specs.declared.kinds.Summary.{Summary}
 use Rattle.stream.proofs.Ranged.{gathered-err, part-ranges-are}
 use Rattle.apply.specs.Steps.{steps-from, steps}
 use Rattle.apply.specs.Applies.{apply-steps, led-from, apply-read}
-use Rattle.apply.specs.Read.{Parted, part-steps, Reads, Leads}
+use Rattle.apply.specs.Read.{Well-parted, part-steps, Reads, Leads}
 
 module _ (name stream : List ℕ) where
   led-by : List Content → Result (List Content) Fault
@@ -60,7 +60,7 @@ own xs Later = refl
 
 -- the parts of a stream that was read
 module _ (side : Side) (bytes : List ℕ) (s : Summary) (out parts : List (Run PayloadMark)) (told : Told side bytes s out) (cut : parts ≡ take (s .count) out) where
-  pub told-parted : Parted bytes parts (s .size)
+  pub told-parted : Well-parted bytes parts (s .size)
   told-parted =
       let st = told .stands in
       record { rising = rw cut (st .rising); lie = (side, rw cut (st .inside)); few = rw cut (st .few) }

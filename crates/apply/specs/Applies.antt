@@ -22,13 +22,13 @@ call-outcome holds image (data-at offset bytes) = write-outcome holds image offs
 call-outcome holds image (zeros-at offset n) = zero-outcome holds image offset n
 
 -- an outcome whose fault, if it has one, is in a record
-abbrev pub in-record-of : ℕ → Outcome → Outcome
-in-record-of i o = (fault-by (in-record i) (o .0), o .1)
+abbrev pub outcome-in-record : ℕ → Outcome → Outcome
+outcome-in-record i o = (fault-by (in-record i) (o .0), o .1)
 
 -- step after step; at a refusal what came before stands, and nothing else is done
 abbrev pub apply-steps : Images → List ℕ → List Step → Outcome
 apply-steps holds image [] = done image
-apply-steps holds image (s ∷ ss) = and-then (in-record-of (s .0) (call-outcome holds image (s .1))) (λ next. apply-steps holds next ss)
+apply-steps holds image (s ∷ ss) = and-then (outcome-in-record (s .0) (call-outcome holds image (s .1))) (λ next. apply-steps holds next ss)
 
 abbrev pub apply-records : Images → List ℕ → List Content → Outcome
 apply-records holds image cs = apply-steps holds image (steps cs)

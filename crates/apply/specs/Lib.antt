@@ -1,3 +1,4 @@
 pub mod Steps
 pub mod Applies
 pub mod Read
+pub mod Laws

@@ -1,6 +1,6 @@
 -- A stream that was read into parts, and the steps that these come to. Rests on the stream's parts and on the steps.
 use mathlib.Core.Path.{_≡_}
-use mathlib.Core.List.{List, [], _∷_, map}
+use mathlib.Core.List.{List, _∷_, map}
 use mathlib.Core.Bool.{Bool, true, false}
 use Prim.Native.Nat.{ℕ, _+_, _≤_}
 use lib.Dec.{ltb}
@@ -17,7 +17,7 @@ use Rattle.overlay.specs.declared.payloads.PayloadMark.{PayloadMark}
 use Rattle.overlay.specs.declared.payloads.Side.{Side}
 use Rattle.overlay.specs.declared.payloads.Side.the-variants.{Later}
 use Rattle.overlay.specs.Runs.{ends, Rising}
-use Rattle.stream.specs.Records.{Content, image-size}
+use Rattle.stream.specs.Records.{image-size}
 use Rattle.stream.specs.Places.{held}
 use Rattle.stream.specs.Parts.{Payload-in, Payloads-in, part-ranges}
 use Rattle.stream.specs.Told.{Told}
@@ -35,7 +35,7 @@ abbrev pub All-lie : List ℕ → List (Run PayloadMark) → Type 0
 All-lie bytes parts = (side : Side) × Payloads-in side bytes parts
 
 -- the parts of a stream that was read: at most 512, rising up to the size, their payload in the bytes
-pub record Parted (bytes : List ℕ) (parts : List (Run PayloadMark)) (size : ℕ) : Type 0 where
+pub record Well-parted (bytes : List ℕ) (parts : List (Run PayloadMark)) (size : ℕ) : Type 0 where
   pub rising : Rising 0 parts size
   pub lie : All-lie bytes parts
   pub few : length parts ≤ 512

@@ -1,10 +1,9 @@
 // Applying a stream to an image, in any store: the image is resized, and then takes the stream's
 // canonical records in turn.
 ghost use mathlib.Core.Path.{_≡_};
-ghost use mathlib.Core.List.{List};
-ghost use Prim.Native.Nat.{ℕ};
 ghost use Rattle.apply.specs.Applies.{apply-steps, apply-read, apply-answer};
-ghost use Rattle.apply.specs.Read.{Parted, part-steps};
+ghost use Rattle.apply.specs.Read.{Well-parted, part-steps};
+ghost use Rattle.apply.specs.Laws.{Applies-exactly, Only-kept, Stops-harmless};
 ghost use Rattle.overlay.specs.declared.payloads.Side.the-variants.{Later};
 ghost use Rattle.stream.specs.Told.{Told};
 ghost use Rattle.stream.specs.Verdict.{verdict};
@@ -15,7 +14,7 @@ use overlay::Run;
 use ranges::apply_ranges;
 use ranges::resize_first;
 use reading::read_from;
-use reading::sorted_ranges;
+use reading::rising_ranges;
 use store::Store;
 use stream::MOST_RANGES;
 use stream::MOST_RECORDS;
@@ -32,7 +31,7 @@ pub use parts::StreamParts;
 // to is one canonical record; a fault of the store tells its number, or 0 where the image cannot be
 // resized. At a refusal what came before stands, and nothing else is done.
 pub fn apply_parts<S: Store>(stream: StreamParts, store: &mut S) -> Result<(), Fault>
-    requires { ⌜ Parted (now (stream .bytes)) (now (stream .parts)) (stream .size) ⌝ }
+    requires { ⌜ Well-parted (now (stream .bytes)) (now (stream .parts)) (stream .size) ⌝ }
     ensures same { λ _. ⌜ holds (now (store .exit)) ≡ holds (now (store .entry)) ⌝ }
     ensures outcome { λ r. ⌜ (r, image (now (store .exit))) ≡ apply-steps (holds (now (store .entry))) (image (now (store .entry))) (part-steps (now (stream .entry .bytes)) (now (stream .entry .parts)) (stream .entry .size)) ⌝ }
 {
@@ -41,7 +40,7 @@ pub fn apply_parts<S: Store>(stream: StreamParts, store: &mut S) -> Result<(), F
         length: 0,
         mark: RangeMark::Zeroed,
     }; MOST_RANGES];
-    let count = sorted_ranges(stream, &mut ranges);
+    let count = rising_ranges(stream, &mut ranges);
     resize_first(stream.size, store)?;
     apply_ranges(stream, &ranges[0..count], store)
 }
@@ -66,8 +65,8 @@ fn apply_told<S: Store>(
     apply_parts(read, store)
 }
 
-// Applies a stream to an image whose present name is `name`: refused if the stream has a fault, then if
-// it leads from another name, and then by the store. Until the store refuses, nothing is altered.
+// Applies a stream to the image of a store, whose present name is `name`. It is refused if the stream
+// has a fault, then if it leads from another name, and then nothing is altered; then by the store.
 pub fn apply<S: Store>(stream: &[u8], name: &[u8], store: &mut S) -> Result<(), Fault>
     ensures same { λ _. ⌜ holds (now (store .exit)) ≡ holds (now (store .entry)) ⌝ }
     ensures outcome { λ r. ⌜ (r, image (now (store .exit))) ≡ apply-answer (holds (now (store .entry))) (image (now (store .entry))) (now (name .entry)) (now (stream .entry)) ⌝ }
@@ -80,3 +79,14 @@ pub fn apply<S: Store>(stream: &[u8], name: &[u8], store: &mut S) -> Result<(), 
     let summary = read_from(stream, name, &mut parts)?;
     apply_told(stream, &parts, summary, store)
 }
+
+// The laws of applying. Exactly: records are applied in full exactly if the store can hold the result
+// of each step, and the image is then what the difference makes of it; else they stop at the first step
+// whose result it cannot hold, and what came before stands. Kept: applying a difference asks nothing of
+// an image but its bytes at the positions that it keeps. Harmless: wherever it stopped, applying the
+// difference again gives what it would have given at once.
+pub fn laws_of_applies()
+    ensures exactly { λ _. ⌜ Applies-exactly ⌝ }
+    ensures only_kept { λ _. ⌜ Only-kept ⌝ }
+    ensures harmless { λ _. ⌜ Stops-harmless ⌝ }
+{}

@@ -1,10 +1,10 @@
 ghost use mathlib.Core.Path.{_≡_};
-ghost use mathlib.Core.List.{List, [], _∷_, map};
-ghost use Prim.Native.Nat.{ℕ, _^_, _<_, _≤_};
+ghost use mathlib.Core.List.{[], _∷_, map};
+ghost use Prim.Native.Nat.{_^_, _<_, _≤_};
 ghost use lib.ListN.{length};
 ghost use Rattle.std.specs.shelf.Lists.{leading};
-ghost use Rattle.apply.specs.Applies.{apply-steps, in-record-of};
-ghost use Rattle.apply.specs.Read.{Lies, All-lie, before, Inside, Parted};
+ghost use Rattle.apply.specs.Applies.{apply-steps, outcome-in-record};
+ghost use Rattle.apply.specs.Read.{Lies, All-lie, before, Inside, Well-parted};
 ghost use Rattle.apply.specs.Steps.{numbered, writes, handed, steps-from};
 ghost use Rattle.overlay.specs.Runs.{ends, Rising};
 ghost use Rattle.store.specs.Stores.{resize-outcome};
@@ -23,7 +23,7 @@ use store::Store;
 // Resizes the image: record 0.
 pub(crate) fn resize_first<S: Store>(size: u64, store: &mut S) -> Result<(), Fault>
     ensures same { λ _. ⌜ holds (now (store .exit)) ≡ holds (now (store .entry)) ⌝ }
-    ensures outcome { λ r. ⌜ (r, image (now (store .exit))) ≡ in-record-of 0 (resize-outcome (holds (now (store .entry))) (image (now (store .entry))) size) ⌝ }
+    ensures outcome { λ r. ⌜ (r, image (now (store .exit))) ≡ outcome-in-record 0 (resize-outcome (holds (now (store .entry))) (image (now (store .entry))) size) ⌝ }
 {
     store.resize(size).in_record(0)
 }
@@ -110,7 +110,7 @@ pub(crate) fn apply_ranges<S: Store>(
     ranges: &[Run<RangeMark>],
     store: &mut S,
 ) -> Result<(), Fault>
-    requires parts { ⌜ Parted (now (stream .bytes)) (now (stream .parts)) (stream .size) ⌝ }
+    requires parts { ⌜ Well-parted (now (stream .bytes)) (now (stream .parts)) (stream .size) ⌝ }
     requires rising { ⌜ Rising 0 (now ranges) (stream .size) ⌝ }
     ensures same { λ _. ⌜ holds (now (store .exit)) ≡ holds (now (store .entry)) ⌝ }
     ensures outcome { λ r. ⌜ (r, image (now (store .exit))) ≡ apply-steps (holds (now (store .entry))) (image (now (store .entry))) (steps-from 1 (map (held (now (stream .entry .bytes))) (now (stream .entry .parts))) (now (ranges .entry))) ⌝ }

@@ -1,7 +1,7 @@
 ghost use mathlib.Core.Path.{_≡_};
 ghost use Prim.Native.Nat.{_≤_};
 ghost use lib.ListN.{take};
-ghost use Rattle.apply.specs.Read.{Parted, Reads, Leads, Reads-from};
+ghost use Rattle.apply.specs.Read.{Well-parted, Reads, Leads, Reads-from};
 ghost use Rattle.overlay.specs.declared.payloads.Side.the-variants.{Later};
 ghost use Rattle.overlay.specs.Runs.{Rising};
 ghost use Rattle.stream.specs.Parts.{part-ranges};
@@ -16,10 +16,10 @@ use stream::Summary;
 use stream::find_ranges;
 use stream::read;
 
-// Puts the ranges that the parts of a stream come to to the front of `out`, in rising order, and counts
-// them.
-pub(crate) fn sorted_ranges(stream: StreamParts, out: &mut Ranges) -> usize
-    requires { ⌜ Parted (now (stream .bytes)) (now (stream .parts)) (stream .size) ⌝ }
+// Finds the ranges that the parts of a stream come to, in rising order: they go to the front of `out`,
+// and are counted.
+pub(crate) fn rising_ranges(stream: StreamParts, out: &mut Ranges) -> usize
+    requires { ⌜ Well-parted (now (stream .bytes)) (now (stream .parts)) (stream .size) ⌝ }
     ensures within { λ r. ⌜ r ≤ 1026 ⌝ }
     ensures rising { λ r. ⌜ Rising 0 (take r (now (out .exit))) (stream .entry .size) ⌝ }
     ensures ranges { λ r. ⌜ take r (now (out .exit)) ≡ part-ranges (now (stream .entry .parts)) (stream .entry .size) ⌝ }

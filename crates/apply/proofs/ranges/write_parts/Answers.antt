@@ -1,9 +1,9 @@
-use mathlib.Core.Path.{_≡_, sym, ap, _∙_}
+use mathlib.Core.Path.{sym, ap, _∙_}
 use mathlib.Core.List.{[], _∷_, map}
 use Prim.Native.Nat.{_+_}
 use lib.ListN.{drop, getD}
 use Rattle.std.specs.declared.result.Result.the-variants.{Err}
-use Rattle.std.proofs.shelf.Lists.{at-drop-more, at-drop-all}
+use Rattle.std.proofs.shelf.Lists.{at-drop-all}
 use Rattle.std.proofs.shelf.Results.{err-from-errBy}
 use Rattle.overlay.specs.declared.runs.Run.{Run}
 use Rattle.overlay.specs.declared.payloads.PayloadMark.{PayloadMark}
@@ -12,7 +12,7 @@ use Rattle.stream.specs.Places.{held}
 use Rattle.apply.specs.Steps.{numbered, writes}
 use Rattle.apply.specs.Applies.{apply-steps}
 use Rattle.apply.proofs.Cursors.{payload-getD}
-use Rattle.apply.proofs.Turns.{turn-ok, turn-err, numbered-cons}
+use Rattle.apply.proofs.Turns.{goes-on, ends-here, writes-more}
 use Rattle.apply.proofs.ranges.write_parts.Needs as need
 
 -- the part that a read past the end would give
@@ -29,21 +29,14 @@ returns-in-Break-write-part g c =
     let i = c .loop-part .part-index in
     let xs = c .args .stream .now in
     let parts = c .args .parts .now in
-    let holds = m .holds (c .args .store .now) in
-    let old = m .image (c .loop-part .store) in
-    let after = m .image (c .write-part .last .store) in
-    let x = held xs (getD parts i none) in
-    let rest = map (held xs) (drop (i + 1) parts) in
+    let n = c .args .record in
     let p = err-from-errBy (c .from-residual .result) (c .from-residual .ensures .1) in
-    let was = c .in-Break-write-part .was tt in
-    let stopped = turn-err holds (m .holds (c .loop-part .store)) old after (c .write-part .result) (numbered (c .args .record) (writes (x ∷ []))) (numbered (c .args .record) (writes rest)) (c .loop-part .inv .0) (c .write-part .ensures .outcome) _ was in
     record {
       same = c .write-part .ensures .same ∙ c .loop-part .inv .0;
-      outcome = ap (λ a. (a, after)) (p .1 ∙ ap Err (p .2))
-          ∙ sym stopped
-          ∙ ap (apply-steps holds old) (sym (numbered-cons (c .args .record) x rest))
-          ∙ sym (at-drop-more (λ l. apply-steps holds old (numbered (c .args .record) (writes (map (held xs) l)))) parts i none (c .loop-part-test .taken))
-          ∙ c .loop-part .inv .1;
+      outcome = ends-here (m .holds (c .args .store .now)) (m .holds (c .loop-part .store)) (m .image (c .loop-part .store)) (m .image (c .write-part .last .store)) (c .write-part .result)
+          (numbered n (writes (map (held xs) (drop i parts)))) (numbered n (writes (held xs (getD parts i none) ∷ []))) (numbered n (writes (map (held xs) (drop (i + 1) parts)))) _
+          (c .loop-part .inv .0) (c .write-part .ensures .outcome) (writes-more xs n parts i none (c .loop-part-test .taken)) (c .loop-part .inv .1)
+          _ (c .from-residual .result) (c .in-Break-write-part .was tt) (p .1 ∙ ap Err (p .2));
     }
 
 pub loop-part-again : need.loop-part-again
@@ -52,17 +45,12 @@ loop-part-again g c =
     let i = c .loop-part .part-index in
     let xs = c .args .stream .now in
     let parts = c .args .parts .now in
-    let holds = m .holds (c .args .store .now) in
-    let old = m .image (c .loop-part .store) in
-    let after = m .image (c .write-part .last .store) in
-    let x = held xs (getD parts i none) in
-    let rest = map (held xs) (drop (i + 1) parts) in
-    let went = turn-ok holds (m .holds (c .loop-part .store)) old after (c .write-part .result) (numbered (c .args .record) (writes (x ∷ []))) (numbered (c .args .record) (writes rest)) (c .loop-part .inv .0) (c .write-part .ensures .outcome) _ (c .in-Continue-write-part .was tt) in (
+    let n = c .args .record in (
       c .write-part .ensures .same ∙ c .loop-part .inv .0,
-      sym went
-          ∙ ap (apply-steps holds old) (sym (numbered-cons (c .args .record) x rest))
-          ∙ sym (at-drop-more (λ l. apply-steps holds old (numbered (c .args .record) (writes (map (held xs) l)))) parts i none (c .loop-part-test .taken))
-          ∙ c .loop-part .inv .1,
+      goes-on (m .holds (c .args .store .now)) (m .holds (c .loop-part .store)) (m .image (c .loop-part .store)) (m .image (c .write-part .last .store)) (c .write-part .result)
+          (numbered n (writes (map (held xs) (drop i parts)))) (numbered n (writes (held xs (getD parts i none) ∷ []))) (numbered n (writes (map (held xs) (drop (i + 1) parts)))) _
+          (c .loop-part .inv .0) (c .write-part .ensures .outcome) (writes-more xs n parts i none (c .loop-part-test .taken)) (c .loop-part .inv .1)
+          _ (c .in-Continue-write-part .was tt),
     )
 
 pub returns : need.returns

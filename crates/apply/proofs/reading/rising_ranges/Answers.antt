@@ -1,11 +1,11 @@
-use mathlib.Core.Path.{_≡_, sym, subst}
+use mathlib.Core.Path.{sym, subst}
 use mathlib.Core.List.{List}
 use native.Mathlib.Omega.{arith}
 use Rattle.overlay.specs.declared.runs.Run.{Run}
 use Rattle.overlay.specs.declared.ranges.RangeMark.{RangeMark}
 use Rattle.overlay.specs.Runs.{Rising}
 use Rattle.apply.proofs.Ranged.{part-ranges-rise}
-use Rattle.apply.proofs.reading.sorted_ranges.Needs as need
+use Rattle.apply.proofs.reading.rising_ranges.Needs as need
 
 pub returns : need.returns
 returns c =

@@ -1,0 +1,4 @@
+pub mod Ends
+mod Shifts
+pub mod Held
+mod Steps
