@@ -2,10 +2,9 @@
 use mathlib.Core.Path.{_≡_}
 use mathlib.Core.List.{List, map}
 use Prim.Native.Nat.{ℕ, _^_, _<_}
-use lib.ListN.{length, getD}
+use lib.ListN.{length}
 use Rattle.std.specs.Options.{mapped}
 use Rattle.std.specs.declared.option.Option.{Option}
-use Rattle.std.specs.declared.option.Option.the-variants.{None}
 use Rattle.std.specs.declared.result.Result.the-variants.{Ok}
 use Rattle.overlay.specs.Marks.{range-moves, range-alike, range-filler}
 use Rattle.overlay.specs.Runs.{painted, Runs, runs-from}
@@ -31,14 +30,6 @@ Streams-bracketing =
 -- applying a join is applying the earlier difference and then the later one
 abbrev pub Applied-in-turn : Type 0
 Applied-in-turn = (d e : List (Option Cell)) (image : List ℕ) → applied (overlaid zeroed d e) image ≡ applied e (applied d image)
-
--- two images agree, with zeros past their ends, at the positions that a difference keeps
-abbrev pub Agree-kept : List (Option Cell) → List ℕ → List ℕ → Type 0
-Agree-kept d b c = (p : ℕ) → p < length d → getD d p None ≡ None → getD b p 0 ≡ getD c p 0
-
--- applying a difference asks nothing of the image but its bytes at the kept positions
-abbrev pub Only-kept : Type 0
-Only-kept = (d : List (Option Cell)) (b c : List ℕ) → Agree-kept d b c → applied d b ≡ applied d c
 
 -- the ranges of a join are the overlay of the two differences' ranges, with range marks
 abbrev pub Ranges-overlaid : Type 0

@@ -1,14 +1,12 @@
-ghost use Rattle.join.specs.Laws.{Bracketing, Streams-bracketing, Applied-in-turn, Only-kept, Ranges-overlaid, Join-means, Ranges-tell, Length-told, Expressible-read-back, Sound-expressible, Canonical-means};
+ghost use Rattle.join.specs.Laws.{Bracketing, Streams-bracketing, Applied-in-turn, Ranges-overlaid, Join-means, Ranges-tell, Length-told, Expressible-read-back, Sound-expressible, Canonical-means};
 
 // The laws of joins. The bracketing does not matter, neither to differences nor to the bytes of
-// streams; applying a join is applying its parts in turn; applying asks nothing of an image but its
-// bytes at kept positions; the ranges of a join are the overlay of the ranges; a joined stream means
-// the join of what the two streams mean.
+// streams; applying a join is applying its parts in turn; the ranges of a join are the overlay of the
+// ranges; a joined stream means the join of what the two streams mean.
 pub fn laws_of_joins()
     ensures bracketing { λ _. ⌜ Bracketing ⌝ }
     ensures streams { λ _. ⌜ Streams-bracketing ⌝ }
     ensures in_turn { λ _. ⌜ Applied-in-turn ⌝ }
-    ensures only_kept { λ _. ⌜ Only-kept ⌝ }
     ensures ranges { λ _. ⌜ Ranges-overlaid ⌝ }
     ensures means { λ _. ⌜ Join-means ⌝ }
 {}

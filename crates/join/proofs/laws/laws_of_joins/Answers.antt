@@ -1,4 +1,4 @@
-use Rattle.join.proofs.Applying.{applied-in-turn, only-kept}
+use Rattle.join.proofs.Applying.{applied-in-turn}
 use Rattle.join.proofs.InTurn.{joined-bracketing, streams-bracketing, ranges-overlaid, join-means}
 use Rattle.join.proofs.laws.laws_of_joins.Needs as need
 
@@ -7,7 +7,6 @@ returns c = record {
   bracketing = joined-bracketing;
   streams = streams-bracketing;
   in-turn = applied-in-turn;
-  only-kept = only-kept;
   ranges = ranges-overlaid;
   means = join-means;
 }

@@ -1,0 +1,9 @@
+pub mod TableLaws
+pub mod Entries
+pub mod Outcomes
+pub mod Calls
+pub mod Ledger
+pub mod Stretches
+pub mod Series
+pub mod Refusals
+pub mod Promise
