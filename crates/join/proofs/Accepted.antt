@@ -1,7 +1,7 @@
 -- What a sound list of records means can be expressed. Assumes nothing.
 use mathlib.Core.Path.{_≡_, refl, sym, ap, subst, _∙_}
 use mathlib.Core.List.{List, [], _∷_, _++_}
-use Prim.Native.Nat.{ℕ, suc, _+_, _*_, _^_, _≤_, _<_}
+use Prim.Native.Nat.{ℕ, _+_, _*_, _^_, _≤_, _<_}
 use native.Mathlib.Omega.{arith}
 use lib.ListN.{length, length-append}
 use Rattle.std.specs.shelf.Lists.{All}
@@ -11,8 +11,8 @@ use Rattle.stream.specs.Places.{from-of, to-of, size-in}
 use Rattle.stream.specs.Wellformed.{Good-name}
 use Rattle.stream.specs.Gathered.{gathered, none}
 use Rattle.stream.specs.Sound.{Good-meta, froms, tos, sizes, Rising, Sound}
-use Rattle.stream.specs.Meaning.{cells, ranges}
-use Rattle.stream.specs.Difference.{difference, Good-from, Expressible}
+use Rattle.stream.specs.Meaning.{ranges}
+use Rattle.stream.specs.Difference.{Good-from}
 use Rattle.stream.proofs.Meanings.{stands-for, encodings-append}
 use Rattle.join.specs.Laws.{Sound-expressible}
 use Rattle.join.proofs.Payloads.{length-cells}

@@ -17,7 +17,7 @@ use Rattle.overlay.specs.Marks.{range-moves, range-alike}
 use Rattle.overlay.specs.States.{over}
 use Rattle.overlay.specs.Runs.{ends, run-at, at, painted, Rising, Parted, Apart, Runs, remarked}
 use Rattle.overlay.proofs.Painted.{over-assoc, merged-at, rising-le}
-use Rattle.overlay.proofs.Bridge.{counted-same, painted-length, one-runs}
+use Rattle.overlay.proofs.Bridge.{counted-same, one-runs}
 use Rattle.overlay.proofs.Remarked.{rising-remarked}
 use Rattle.stream.specs.Meaning.{mark-of, ranges}
 use Rattle.stream.specs.Parts.{range-of, parts-cells}

@@ -2,7 +2,7 @@
 use mathlib.Core.Path.{_≡_, refl, sym, ap, ap₂, subst, _∙_}
 use mathlib.Core.Bool.{cond}
 use mathlib.Core.Logic.{⊎-elim}
-use mathlib.Core.List.{List, [], _∷_, _++_, map}
+use mathlib.Core.List.{List, [], _∷_, map}
 use Prim.Native.Nat.{ℕ, _+_, _-_, _^_, _≤_, _<_}
 use native.Mathlib.Omega.{arith}
 use lib.Dec.{ltb}
@@ -26,7 +26,7 @@ use Rattle.overlay.specs.Runs.{ends, run-at, at, painted, overlaid-at, Rising, 
 use Rattle.overlay.proofs.Painted.{run-inside, run-before, run-after}
 use Rattle.overlay.proofs.Overlaid.{overlaid-length, maps-through}
 use Rattle.overlay.proofs.Bridge.{overlay-painted}
-use Rattle.stream.specs.Meaning.{Cell, zeroed, mark-of, ranges}
+use Rattle.stream.specs.Meaning.{zeroed, mark-of, ranges}
 use Rattle.stream.specs.Parts.{cell-of, range-of, parts-cells, Payload-in, Payloads-in}
 use Rattle.stream.specs.Difference.{Difference, canonical}
 use Rattle.stream.proofs.Ranged.{kinds-painted}

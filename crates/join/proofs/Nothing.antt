@@ -1,18 +1,17 @@
 -- A difference that keeps all, under another of its size. Assumes nothing.
 use mathlib.Core.Path.{_≡_, refl, sym, ap, _∙_}
 use mathlib.Core.List.{List, [], _∷_, map}
-use Prim.Native.Nat.{ℕ, zero, suc, _^_, _≤_, _<_}
+use Prim.Native.Nat.{ℕ, zero, suc, _≤_}
 use native.Mathlib.Omega.{arith}
 use lib.ListN.{length, replicate}
 use Rattle.std.specs.Options.{mapped}
-use Rattle.std.specs.declared.option.Option.{Option}
-use Rattle.std.specs.declared.option.Option.the-variants.{Some, None}
+use Rattle.std.specs.declared.option.Option.the-variants.{None}
 use Rattle.overlay.specs.declared.payloads.Side.{Side}
 use Rattle.overlay.specs.Marks.{payload-moves}
 use Rattle.overlay.specs.States.{overlaid}
 use Rattle.overlay.proofs.Overlaid.{over-nothing}
 use Rattle.overlay.proofs.Bridge.{painted-nothing}
-use Rattle.stream.specs.Meaning.{Cell, zeroed, ranges}
+use Rattle.stream.specs.Meaning.{zeroed, ranges}
 use Rattle.stream.specs.Parts.{cell-of, parts-cells}
 use Rattle.join.specs.declared.sources.Source.{Source}
 use Rattle.join.specs.Sources.{source-cells, Sourced}

@@ -1,12 +1,11 @@
 -- A source that was read means the difference of its stream. Assumes nothing.
-use mathlib.Core.Path.{_≡_, refl, sym, ap, ap₂, subst, _∙_}
+use mathlib.Core.Path.{_≡_, refl, ap, ap₂, subst, _∙_}
 use mathlib.Core.List.{List}
 use Prim.Native.Nat.{ℕ}
 use lib.ListN.{take}
 use Rattle.fault.specs.Fault.{then}
 use Rattle.fault.specs.declared.kinds.Fault.{Fault}
 use Rattle.std.specs.declared.option.Option.{Option}
-use Rattle.std.specs.declared.result.Result.{Result}
 use Rattle.std.specs.declared.result.Result.the-variants.{Ok, Err}
 use Rattle.overlay.specs.declared.runs.Run.{Run}
 use Rattle.overlay.specs.declared.payloads.PayloadMark.{PayloadMark}

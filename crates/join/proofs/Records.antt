@@ -1,7 +1,7 @@
 -- The bytes of canonical records, one after another, and their lengths. Assumes nothing.
 use mathlib.Core.Path.{_≡_, refl, sym, ap, subst, _∙_}
 use mathlib.Core.List.{List, [], _∷_, _++_, map}
-use Prim.Native.Nat.{ℕ, _+_, _-_, _*_, _^_, _≤_, _<_}
+use Prim.Native.Nat.{ℕ, _+_, _*_, _^_, _≤_, _<_}
 use native.Mathlib.Omega.{arith}
 use lib.ListN.{length, getD, take, drop}
 use Rattle.std.proofs.shelf.Lists.{append-assoc, append-nil, length-append, length-map, getD-map, drop-more, drop-all, take-more, take-all, map-push}
@@ -27,7 +27,7 @@ use Rattle.stream.proofs.Ranged.{kinds-agree}
 use Rattle.writer.specs.Fields.{opening}
 use Rattle.writer.proofs.Opening.{encodings-append, length-opening}
 use Rattle.join.specs.Lengths.{marked-length, record-length, records-length, stream-length}
-use Rattle.join.specs.Parts.{Ranged, All-ranged}
+use Rattle.join.specs.Parts.{All-ranged}
 use Rattle.join.proofs.Payloads.{length-payload, length-cells, cells-at}
 
 length-marked : (m : RangeMark) (o n : ℕ) (bs : List ℕ) → length bs ≡ n → length (encoded (range-content m o n bs)) ≡ marked-length m n

@@ -1,7 +1,7 @@
 ghost use mathlib.Core.Path.{_≡_};
-ghost use mathlib.Core.List.{map, _++_};
+ghost use mathlib.Core.List.{map};
 ghost use Prim.Native.Nat.{_+_, _^_, _≤_};
-ghost use lib.ListN.{length, drop};
+ghost use lib.ListN.{length};
 ghost use Rattle.overlay.specs.declared.ranges.RangeMark.the-variants.{Written};
 ghost use Rattle.overlay.specs.Marks.{payload-moves};
 ghost use Rattle.overlay.specs.Runs.{ends, Rising};

@@ -16,7 +16,7 @@ use Rattle.fault.specs.declared.kinds.Cause.the-variants as causes
 use Rattle.std.specs.declared.result.Result.{Result}
 use Rattle.std.specs.declared.result.Result.the-variants.{Ok, Err}
 
--- the place of the next record, and what the records before it say: the state, the size of the book, the end of the last data record, and how many data
+-- the place of the next record, and what the records before it say: the state, the size of the image, the end of the last data record, and how many data
 -- records there were
 pub record Pos : Type 0 where
   pub place : ℕ

@@ -22,7 +22,7 @@ use Rattle.std.specs.declared.result.Result.the-variants.{Ok, Err}
 abbrev pub Good-name : List ℕ → Type 0
 Good-name name = (1 ≤ length name) × (length name ≤ 64) × (every-printable name ≡ true)
 
--- a range of n bytes lies in the book, behind the data records before it, and is one of 512
+-- a range of n bytes lies in the image, behind the data records before it, and is one of 512
 abbrev pub Good-range : Pos → ℕ → ℕ → Type 0
 Good-range p offset n = (p .count < 512) × (1 ≤ n) × (offset + n ≤ p .size) × (p .end ≤ offset)
 

@@ -1,5 +1,5 @@
 -- The table of a shelf and what the calls do to it. A shelf keeps difference streams, its entries, end to end at the front of a piece of memory that is
--- handed in with each call; its table says where each entry lies, and from which snapshot to which it leads. Rests on nothing.
+-- handed in with each call; its table says where each entry lies, and from which snapshot to which it leads. Rests on how names are compared.
 use mathlib.Core.Path.{_≡_}
 use mathlib.Core.Bool.{Bool, false, _||_}
 use mathlib.Core.List.{List, [], _∷_, _++_, map}

@@ -1,11 +1,10 @@
-use mathlib.Core.Path.{_≡_, refl, sym, ap, _∙_}
-use mathlib.Core.List.{List, []}
-use Prim.Native.Nat.{ℕ}
+use mathlib.Core.Path.{refl, sym, ap, _∙_}
+use mathlib.Core.List.{[]}
 use native.Mathlib.Omega.{arith}
 use Rattle.fault.specs.Fault.{then}
 use Rattle.fault.specs.declared.kinds.Layer.the-variants.{Stream}
 use Rattle.stream.specs.Buffers.{filling, filled-by}
-use Rattle.stream.specs.Difference.{Difference, canonical}
+use Rattle.stream.specs.Difference.{canonical}
 use Rattle.join.specs.Sources.{source-cells, source-difference}
 use Rattle.join.specs.Joins.{limited}
 use Rattle.join.proofs.Links.{limited-ok}

@@ -1,5 +1,5 @@
 use mathlib.Core.Path.{_≡_}
-use Prim.Native.Nat.{_+_, _-_, _≤_}
+use Prim.Native.Nat.{_-_, _≤_}
 use Rattle.overlay.specs.Marks.{payload-moves}
 use Rattle.overlay.specs.Runs.{ends}
 use Rattle.overlay.specs.Walks.{Cursor}
