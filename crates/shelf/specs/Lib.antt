@@ -7,3 +7,4 @@ pub mod Stretches
 pub mod Series
 pub mod Refusals
 pub mod Promise
+pub mod Canonicity
