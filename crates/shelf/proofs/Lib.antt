@@ -13,6 +13,3 @@ pub mod Stepped
 pub mod Refused
 pub mod Shown
 pub mod Promised
-pub mod Records
-pub mod Ordered
-pub mod Canonic

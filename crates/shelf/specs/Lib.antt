@@ -7,4 +7,3 @@ pub mod Stretches
 pub mod Series
 pub mod Refusals
 pub mod Promise
-pub mod Canonicity
