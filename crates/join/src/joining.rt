@@ -42,7 +42,7 @@ fn join_parts(earlier: Source, later: Source, out: &mut [Run<PayloadMark>; 2050]
 }
 
 // Writes the canonical stream of a join, of which `records` are the ranges, to the front of `out`.
-fn write_joined(earlier: Source, later: Source, records: &[Run<RangeMark>], out: &mut [u8])
+pub fn write_joined(earlier: Source, later: Source, records: &[Run<RangeMark>], out: &mut [u8])
     requires earlier_sourced { ⌜ Sourced Earlier earlier ⌝ }
     requires later_sourced { ⌜ Sourced Later later ⌝ }
     requires ranged { ⌜ now records ≡ ranges (source-join earlier later .cells) ⌝ }

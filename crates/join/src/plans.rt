@@ -59,7 +59,7 @@ fn join_ranges(earlier: Source, later: Source, out: &mut [Run<RangeMark>]) -> Op
 
 // Finds the canonical records of a join, which it puts to the front of `records`, and the length of
 // its stream; refuses more than 512 records. Nothing is written.
-pub(crate) fn plan_join(
+pub fn plan_join(
     earlier: Source,
     later: Source,
     records: &mut [Run<RangeMark>; 512],

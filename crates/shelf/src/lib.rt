@@ -4,6 +4,7 @@ ghost use Rattle.shelf.specs.Refusals.{Refusals-alter-nothing};
 ghost use Rattle.shelf.specs.TableLaws.{Laws-of-tables};
 
 mod bytes;
+mod joining;
 mod moves;
 mod settling;
 
