@@ -15,3 +15,4 @@ pub mod Shown
 pub mod Promised
 mod Applied
 mod Joined
+mod Sourced

@@ -5,7 +5,8 @@ ghost use Rattle.fault.specs.Fault.{fault-by, in-entry};
 ghost use Rattle.join.specs.Joins.{canonical-stream};
 ghost use Rattle.overlay.specs.declared.payloads.Side.the-variants.{Later};
 ghost use Rattle.std.specs.declared.result.Result.the-variants.{Ok};
-ghost use Rattle.stream.specs.Difference.{meaning};
+ghost use Rattle.join.specs.Sources.{Sourced, source-difference};
+ghost use Rattle.stream.specs.Difference.{meaning, canonical};
 ghost use Rattle.stream.specs.Told.{Told};
 ghost use Rattle.table.specs.Held.{table-of};
 ghost use Rattle.table.specs.Tables.{row-at};
@@ -18,6 +19,7 @@ use apply::apply_parts;
 use fault::Fault;
 use fault::Located;
 use fault::ResultLocated;
+use join::Source;
 use store::Store;
 use stream::Parts;
 use stream::Summary;
@@ -85,4 +87,22 @@ pub(crate) fn settle_read<S: Store>(
     apply_first(table, bytes, parts, summary, store)?;
     drop_entry(table, bytes);
     Ok(())
+}
+
+// Applies a source whose stream is the canonical one of its difference to the image of a store. A
+// fault of the store is in entry 0.
+pub(crate) fn apply_source<S: Store>(source: Source, store: &mut S) -> Result<(), Fault>
+    requires sourced { ⌜ Sourced Later source ⌝ }
+    requires means { ⌜ meaning (now (source .bytes)) ≡ Ok (source-difference source) ⌝ }
+    requires own { ⌜ canonical (source-difference source) ≡ now (source .bytes) ⌝ }
+    ensures same { λ _. ⌜ holds (now (store .exit)) ≡ holds (now (store .entry)) ⌝ }
+    ensures answer { λ r. ⌜ r ≡ fault-by (in-entry 0) (settle-by (holds (now (store .entry))) (image (now (store .entry))) (Ok (source-difference (source .entry))) .0) ⌝ }
+    ensures image { λ _. ⌜ image (now (store .exit)) ≡ settle-by (holds (now (store .entry))) (image (now (store .entry))) (Ok (source-difference (source .entry))) .1 ⌝ }
+{
+    let stream = StreamParts {
+        bytes: source.bytes,
+        parts: source.parts,
+        size: source.size,
+    };
+    apply_parts(stream, store).in_entry(0)
 }
