@@ -13,6 +13,6 @@ pub mod Stepped
 pub mod Refused
 pub mod Shown
 pub mod Promised
-mod Applied
+mod Done
 mod Joined
 mod Sourced

@@ -2,14 +2,14 @@
 // for it there and on the shelf.
 ghost use mathlib.Core.Path.{_≡_};
 ghost use Prim.Native.Nat.{_+_, _^_, _≤_, _<_};
-ghost use lib.Dec.{ltb};
+ghost use lib.Dec.{ltb, leb};
 ghost use lib.ListN.{length};
 ghost use Rattle.fault.specs.Fault.{fault, fault-by, at-layer, in-entry, then};
 ghost use Rattle.fault.specs.declared.kinds.Cause.the-variants as causes;
 ghost use Rattle.fault.specs.declared.kinds.Layer.the-variants as layers;
 ghost use Rattle.join.specs.Sources.{Sourced, source-join};
 ghost use Rattle.overlay.specs.declared.payloads.Side.the-variants.{Earlier, Later};
-ghost use Rattle.shelf.specs.Entries.{refuse-if};
+ghost use Rattle.shelf.specs.Entries.{refuse-if, is-short};
 ghost use Rattle.shelf.specs.Outcomes.{united-fill, join-fits};
 ghost use Rattle.std.specs.declared.result.Result.the-variants.{Ok};
 ghost use Rattle.stream.specs.Buffers.{filled-by};
@@ -25,6 +25,20 @@ use join::Source;
 use join::plan_join;
 use join::write_joined;
 use table::EntryTable;
+
+// Refuses where entries i and i + 1 are not both there, or where the bytes end before the fill.
+pub(crate) fn check_pair(table: &EntryTable, bytes: &[u8], i: usize) -> Result<(), Fault>
+    ensures { λ r. ⌜ r ≡ refuse-if (leb (length (table-of (now (table .entry)) .rows)) (i + 1)) (in-entry i (fault causes.NoEntry i)) (refuse-if (is-short (table-of (now (table .entry))) (now (bytes .entry))) (in-entry i (fault causes.Damaged 0)) (Ok tt)) ⌝ }
+{
+    let count = table.count();
+    if count == 0 || count - 1 <= i {
+        return Err(Fault::new(Cause::NoEntry, i as u64).in_entry(i as u64));
+    }
+    if bytes.len() < table.fill() {
+        return Err(Fault::new(Cause::Damaged, 0).in_entry(i as u64));
+    }
+    Ok(())
+}
 
 // The fill after entries i and i + 1 became one of so many bytes.
 fn united_fill(table: &EntryTable, i: usize, byte_count: usize) -> usize
