@@ -1,6 +1,6 @@
 -- What a stream that was read stands for in a join: its difference, and what its runs promise. Rests on the stream's meaning.
 use mathlib.Core.Path.{_≡_}
-use mathlib.Core.List.{List}
+use mathlib.Core.List.{List, map}
 use Prim.Native.Nat.{ℕ, _^_, _≤_}
 use lib.ListN.{length}
 use Rattle.fault.specs.declared.kinds.Fault.{Fault}
@@ -10,6 +10,10 @@ use Rattle.std.specs.declared.result.Result.the-variants.{Ok, Err}
 use Rattle.overlay.specs.declared.payloads.Side.{Side}
 use Rattle.overlay.specs.Payloads.{stream-of}
 use Rattle.overlay.specs.Runs.{Rising}
+use Rattle.stream.specs.Records.{Content}
+use Rattle.stream.specs.Places.{held, data-of, size-in}
+use Rattle.stream.specs.Verdict.{verdict}
+use Rattle.stream.specs.Sound.{Sound}
 use Rattle.stream.specs.Meaning.{Cell}
 use Rattle.stream.specs.Parts.{parts-cells, Payloads-in}
 use Rattle.stream.specs.Difference.{Difference, joined}
@@ -27,13 +31,21 @@ abbrev pub meant : Result Source Fault → Result Difference Fault
 meant (Ok s) = Ok (source-difference s)
 meant (Err f) = Err f
 
--- a source on a side: its runs rise up to the size, lie in its bytes, are at most 512, and mean the same in every join where it has that side
+-- the records of its stream are sound, its runs with its bytes are their data records, one for one, and its size is what they say
+pub record Says (s : Source) (cs : List Content) : Type 0 where
+  pub sound : Sound cs
+  pub runs : map (held (s .bytes .now)) (s .parts .now) ≡ data-of cs
+  pub size : s .size ≡ size-in 0 cs
+
+-- a source on a side: its runs rise up to the size, lie in its bytes, are at most 512, mean the same in every join where it has that side, and say
+-- what the records of its stream say
 pub record Sourced (side : Side) (s : Source) : Type 0 where
   pub rising : Rising 0 (s .parts .now) (s .size)
   pub inside : Payloads-in side (s .bytes .now) (s .parts .now)
   pub few : length (s .parts .now) ≤ 512
   pub small : s .size ≤ 2 ^ 40
   pub means : (earlier later : List ℕ) → stream-of earlier later side ≡ s .bytes .now → parts-cells earlier later (s .parts .now) (s .size) ≡ source-cells s
+  pub says : (cs : List Content) → verdict (s .bytes .now) ≡ Ok cs → Says s cs
   pub from-short : length (s .from .now) ≤ 64
   pub to-short : length (s .to .now) ≤ 64
 

@@ -41,8 +41,8 @@ fn join_parts(earlier: Source, later: Source, out: &mut [Run<PayloadMark>; 2050]
     }
 }
 
-// Writes the canonical stream of a join, of which `records` are the ranges, to the front of `out`.
-fn write_joined(earlier: Source, later: Source, records: &[Run<RangeMark>], out: &mut [u8])
+// Puts the parts of a join together to its canonical stream, at the front of `out`.
+fn put_joined(earlier: Source, later: Source, records: &[Run<RangeMark>], out: &mut [u8])
     requires earlier_sourced { ⌜ Sourced Earlier earlier ⌝ }
     requires later_sourced { ⌜ Sourced Later later ⌝ }
     requires ranged { ⌜ now records ≡ ranges (source-join earlier later .cells) ⌝ }
@@ -58,6 +58,17 @@ fn write_joined(earlier: Source, later: Source, records: &[Run<RangeMark>], out:
         size: later.size,
     };
     put_stream(joined, earlier.from, later.to, records, out);
+}
+
+// Writes the canonical stream of a join, of which `records` are the ranges, to the front of `out`.
+pub fn write_joined(earlier: Source, later: Source, records: &[Run<RangeMark>], out: &mut [u8])
+    requires earlier_sourced { ⌜ Sourced Earlier earlier ⌝ }
+    requires later_sourced { ⌜ Sourced Later later ⌝ }
+    requires ranged { ⌜ now records ≡ ranges (source-join earlier later .cells) ⌝ }
+    requires room { ⌜ length (canonical (source-join earlier later)) ≤ length (now out) ⌝ }
+    ensures { λ _. ⌜ now (out .exit) ≡ canonical (source-join (earlier .entry) (later .entry)) ++ drop (length (canonical (source-join (earlier .entry) (later .entry)))) (now (out .entry)) ⌝ }
+{
+    put_joined(earlier, later, records, out);
 }
 
 // Writes the join of two sources to the front of `out` and tells its length; refuses more than 512

@@ -12,10 +12,8 @@ use joining::join_sources;
 use overlay::PayloadMark;
 use overlay::Run;
 use overlay::Side;
-use sources::NO_RUN;
 use sources::names_meet;
 use sources::read_entry;
-use sources::read_source;
 
 mod canonical;
 mod joining;
@@ -26,9 +24,16 @@ mod plans;
 mod sources;
 mod writing;
 
+pub use joining::write_joined;
 pub use laws::laws_of_canonical_streams;
 pub use laws::laws_of_joins;
+pub use plans::NO_RANGE;
+pub use plans::Plan;
 pub use plans::joined_length;
+pub use plans::plan_join;
+pub use sources::NO_RUN;
+pub use sources::Source;
+pub use sources::read_source;
 
 // Joins two streams: writes the canonical stream of the join to the front of `out` and tells its
 // length. Refused, in this order: the earlier stream (entry 0), the later stream (entry 1), names that

@@ -57,9 +57,8 @@ fn join_ranges(earlier: Source, later: Source, out: &mut [Run<RangeMark>]) -> Op
     )
 }
 
-// Finds the canonical records of a join, which it puts to the front of `records`, and the length of
-// its stream; refuses more than 512 records. Nothing is written.
-pub(crate) fn plan_join(
+// Finds the plan of a join, whose canonical records go to the front of `records`.
+fn find_plan(
     earlier: Source,
     later: Source,
     records: &mut [Run<RangeMark>; 512],
@@ -76,6 +75,21 @@ pub(crate) fn plan_join(
         count,
         length: stream_length(earlier.from, later.to, &records[0..count], later.size),
     })
+}
+
+// Finds the canonical records of a join, which it puts to the front of `records`, and the length of
+// its stream; refuses more than 512 records. Nothing is written.
+pub fn plan_join(
+    earlier: Source,
+    later: Source,
+    records: &mut [Run<RangeMark>; 512],
+) -> Result<Plan, Fault>
+    requires earlier_sourced { ⌜ Sourced Earlier earlier ⌝ }
+    requires later_sourced { ⌜ Sourced Later later ⌝ }
+    ensures plan { λ r. ⌜ r ≡ limited (source-join (earlier .entry) (later .entry)) (plan-of (source-join (earlier .entry) (later .entry))) ⌝ }
+    ensures records { λ r. ⌜ made r (λ plan. take (plan .count) (now (records .exit)) ≡ ranges (source-join (earlier .entry) (later .entry) .cells)) ⌝ }
+{
+    find_plan(earlier, later, records)
 }
 
 // The length that the join of two streams has, which nothing is written of. Refused as the join is,

@@ -45,7 +45,7 @@ fn name_in(stream: &[u8], span: Span) -> &[u8]
 }
 
 // Reads a stream on a side of a join; its runs lie in `runs`.
-pub(crate) fn read_source<'s, 'r>(
+pub fn read_source<'s, 'r>(
     stream: &'s [u8],
     side: Side,
     runs: &'r mut [Run<PayloadMark>; 512],

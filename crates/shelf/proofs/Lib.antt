@@ -13,3 +13,6 @@ pub mod Stepped
 pub mod Refused
 pub mod Shown
 pub mod Promised
+mod Done
+mod Joined
+mod Sourced

@@ -5,6 +5,7 @@ use Rattle.fault.specs.Fault.{then}
 use Rattle.fault.specs.declared.kinds.Layer.the-variants.{Stream}
 use Rattle.stream.specs.Buffers.{filling, filled-by}
 use Rattle.stream.specs.Difference.{canonical}
+use Rattle.stream.proofs.Sounds.{never}
 use Rattle.join.specs.Sources.{source-cells, source-difference}
 use Rattle.join.specs.Joins.{limited}
 use Rattle.join.proofs.Links.{limited-ok}
@@ -23,6 +24,7 @@ join-sources-requires c κs =
         few = omega arith;
         small = c .pre .small;
         means = λ e l h. nothing-parts e l n ∙ sym (nothing-parts [] [] n);
+        says = λ cs v. never cs _ v;
         from-short = c .pre .from-short;
         to-short = c .pre .from-short;
       };

@@ -1,10 +1,14 @@
-use mathlib.Core.Path.{_≡_, sym, ap, _∙_}
+use mathlib.Core.Path.{_≡_, sym, ap, subst, _∙_}
 use native.Mathlib.Omega.{arith}
 use Prim.Native.Nat.{_-_}
+use mathlib.Core.List.{map}
 use lib.ListN.{take}
 use Rattle.std.proofs.shelf.Results.{err-from-errBy}
 use Rattle.std.specs.declared.result.Result.the-variants.{Ok}
+use Rattle.stream.specs.Places.{held, data-of, size-in}
 use Rattle.stream.proofs.Ranged.{gathered-err}
+use Rattle.stream.specs.Sound.{Sound}
+use Rattle.stream.proofs.Sounds.{ok-same}
 use Rattle.join.specs.Sources.{source-cells}
 use Rattle.join.proofs.Readings.{stream-both, meaning-ok, meaning-err, difference-same, told-stands}
 use Rattle.join.proofs.sources.read_source.Needs as need
@@ -33,6 +37,9 @@ returns c =
         few = st .few;
         small = st .small;
         means = λ e l h. st .means e l h ∙ sym (st .means xs xs own);
+        says = λ cs v.
+            let e = ok-same (t .records) cs (sym (t .was-read) ∙ v) in
+            record { sound = subst Sound e (t .sound); runs = ap (map (held xs)) (sym cut) ∙ t .tells .runs ∙ ap data-of e; size = t .tells .size ∙ ap (size-in 0) e };
         from-short = c .name-in .ensures .short;
         to-short = c .name-in-2 .ensures .short;
       };

@@ -6,7 +6,7 @@ use Rattle.stream.specs.Meaning.{ranges}
 use Rattle.stream.specs.Parts.{parts-cells}
 use Rattle.join.specs.Parts.{Lie}
 use Rattle.join.proofs.Links.{join-length-told}
-use Rattle.join.proofs.joining.write_joined.Needs as need
+use Rattle.join.proofs.joining.put_joined.Needs as need
 
 pub put-stream-requires : need.put-stream-requires
 put-stream-requires c κs =

@@ -7,7 +7,7 @@ use Rattle.join.specs.declared.plans.Plan.{Plan}
 use Rattle.join.specs.Sources.{source-join}
 use Rattle.join.specs.Joins.{plan-of}
 use Rattle.join.proofs.Links.{counted-most, join-rises, join-length-told, limited-ok}
-use Rattle.join.proofs.plans.plan_join.Needs as need
+use Rattle.join.proofs.plans.find_plan.Needs as need
 
 pub stream-length-requires : need.stream-length-requires
 stream-length-requires c κs =
