@@ -4,7 +4,6 @@ ghost use Rattle.fault.specs.Fault.{then};
 ghost use Rattle.fault.specs.declared.kinds.Layer.the-variants as layers;
 ghost use Rattle.stream.specs.Buffers.{filling, filled-by};
 ghost use Rattle.join.specs.Joins.{joined-stream, canonical-stream};
-use canonical::write_source;
 use fault::Cause;
 use fault::Fault;
 use fault::Layer;
@@ -12,10 +11,8 @@ use joining::join_sources;
 use overlay::PayloadMark;
 use overlay::Run;
 use overlay::Side;
-use sources::NO_RUN;
 use sources::names_meet;
 use sources::read_entry;
-use sources::read_source;
 
 mod canonical;
 mod joining;
@@ -26,9 +23,15 @@ mod plans;
 mod sources;
 mod writing;
 
+pub use canonical::canonical_length;
+pub use canonical::is_canonical;
+pub use canonical::write_source;
 pub use laws::laws_of_canonical_streams;
 pub use laws::laws_of_joins;
 pub use plans::joined_length;
+pub use sources::NO_RUN;
+pub use sources::Source;
+pub use sources::read_source;
 
 // Joins two streams: writes the canonical stream of the join to the front of `out` and tells its
 // length. Refused, in this order: the earlier stream (entry 0), the later stream (entry 1), names that

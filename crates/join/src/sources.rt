@@ -45,12 +45,13 @@ fn name_in(stream: &[u8], span: Span) -> &[u8]
 }
 
 // Reads a stream on a side of a join; its runs lie in `runs`.
-pub(crate) fn read_source<'s, 'r>(
+pub fn read_source<'s, 'r>(
     stream: &'s [u8],
     side: Side,
     runs: &'r mut [Run<PayloadMark>; 512],
 ) -> Result<Source<'s, 'r>, Fault>
     ensures means { λ r. ⌜ meant r ≡ meaning (now (stream .entry)) ⌝ }
+    ensures bytes { λ r. ⌜ made r (λ s. now (s .bytes) ≡ now (stream .entry)) ⌝ }
     ensures sourced { λ r. ⌜ made r (λ s. Sourced side s) ⌝ }
 {
     let summary = read(stream, side, runs)?;
