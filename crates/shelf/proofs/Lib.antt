@@ -13,3 +13,4 @@ pub mod Stepped
 pub mod Refused
 pub mod Shown
 pub mod Promised
+pub mod Reading

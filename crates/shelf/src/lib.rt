@@ -3,6 +3,9 @@ ghost use Rattle.shelf.specs.Promise.{Always-comes-back};
 ghost use Rattle.shelf.specs.Refusals.{Refusals-alter-nothing};
 ghost use Rattle.shelf.specs.TableLaws.{Laws-of-tables};
 
+mod entries;
+mod lists;
+
 // The laws of the shelf. Tables: what the operations on the table keep. Refusals: a refused call alters
 // nothing, but for the image where the store stopped a settle. Comes back: after every series of puts,
 // joins, settles and lists, refused or not, the base image with the shelf's streams is what it was with
