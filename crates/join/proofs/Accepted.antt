@@ -64,7 +64,7 @@ good-from [] h = tt
 good-from (b ∷ bs) h = h
 
 -- names behind metadata, in data records that say none
-data-from : (ds : List Content) (size end : ℕ) (before : List ℕ) → Rising size end ds → from-of before ds ≡ before
+pub data-from : (ds : List Content) (size end : ℕ) (before : List ℕ) → Rising size end ds → from-of before ds ≡ before
 data-from [] size end before r = refl
 data-from (from-name n ∷ ds) size end before r = absurd r
 data-from (to-name n ∷ ds) size end before r = absurd r
@@ -72,7 +72,7 @@ data-from (image-size n ∷ ds) size end before r = absurd r
 data-from (data-at o bs ∷ ds) size end before r = data-from ds size (o + length bs) before (r .3)
 data-from (zeros-at o n ∷ ds) size end before r = data-from ds size (o + n) before (r .3)
 
-data-to : (ds : List Content) (size end : ℕ) (before : List ℕ) → Rising size end ds → to-of before ds ≡ before
+pub data-to : (ds : List Content) (size end : ℕ) (before : List ℕ) → Rising size end ds → to-of before ds ≡ before
 data-to [] size end before r = refl
 data-to (from-name n ∷ ds) size end before r = absurd r
 data-to (to-name n ∷ ds) size end before r = absurd r

@@ -44,7 +44,7 @@ ranges-overlaid d e k l =
     ap (runs-from range-moves range-alike 0) (maps-through mark-of zeroed d e ∙ ap₂ (overlaid range.Zeroed) (whole d k) (whole e l))
 
 -- what a stream whose meaning is known was read as
-meaning-back : (o : Result (List Content) Fault) (d : Difference) → then o (λ cs. Ok (difference cs)) ≡ Ok d → (cs : List Content) × (o ≡ Ok cs) × (difference cs ≡ d)
+pub meaning-back : (o : Result (List Content) Fault) (d : Difference) → then o (λ cs. Ok (difference cs)) ≡ Ok d → (cs : List Content) × (o ≡ Ok cs) × (difference cs ≡ d)
 meaning-back (Ok cs) d h = (cs, refl, ok-same (difference cs) d h)
 meaning-back (Err f) d h = never d f h
 

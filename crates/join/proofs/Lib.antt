@@ -8,3 +8,5 @@ pub mod Expressed
 pub mod Accepted
 pub mod Applying
 pub mod InTurn
+pub mod Ordered
+pub mod Canonicity

@@ -1,22 +1,29 @@
 -- A difference that keeps all, under another of its size. Assumes nothing.
-use mathlib.Core.Path.{_≡_, refl, sym, ap, _∙_}
+use mathlib.Core.Path.{_≡_, refl, sym, ap, subst, _∙_}
 use mathlib.Core.List.{List, [], _∷_, map}
 use Prim.Native.Nat.{ℕ, zero, suc, _≤_}
 use native.Mathlib.Omega.{arith}
 use lib.ListN.{length, replicate}
 use Rattle.std.specs.Options.{mapped}
 use Rattle.std.specs.declared.option.Option.the-variants.{None}
+use Rattle.overlay.specs.declared.runs.Run.{Run}
+use Rattle.overlay.specs.declared.ranges.RangeMark.{RangeMark}
 use Rattle.overlay.specs.declared.payloads.Side.{Side}
 use Rattle.overlay.specs.Marks.{payload-moves}
+use Rattle.overlay.specs.Runs.{Rising}
 use Rattle.overlay.specs.States.{overlaid}
 use Rattle.overlay.proofs.Overlaid.{over-nothing}
 use Rattle.overlay.proofs.Bridge.{painted-nothing}
 use Rattle.stream.specs.Meaning.{zeroed, ranges}
-use Rattle.stream.specs.Parts.{cell-of, parts-cells}
+use Rattle.stream.specs.Parts.{cell-of, parts-cells, part-ranges}
+use Rattle.stream.specs.Difference.{canonical}
+use Rattle.stream.proofs.Ranged.{part-ranges-are}
 use Rattle.join.specs.declared.sources.Source.{Source}
-use Rattle.join.specs.Sources.{source-cells, Sourced}
+use Rattle.join.specs.Sources.{source-cells, source-difference, Sourced, Was-read}
+use Rattle.join.specs.Lengths.{stream-length}
 use Rattle.join.proofs.Payloads.{length-cells}
 use Rattle.join.proofs.Fewest.{few-ranges}
+use Rattle.join.proofs.Records.{ranges-rise, length-canonical}
 
 kept-mapped : {V W : Type 0} (f : V → W) (n : ℕ) → map (mapped f) (replicate n None) ≡ replicate n None
 kept-mapped f zero = refl
@@ -46,3 +53,20 @@ unfolding source-cells
 source-few side s h =
     let l = few-ranges (s .bytes .now) (s .bytes .now) (s .parts .now) (s .size) (omega (arith, h .small)) (h .rising) in
     omega (arith, l, h .few)
+
+-- the ranges of a source, as the code finds them
+pub source-ranges : (s : Source) → ranges (source-cells s) ≡ part-ranges (s .parts .now) (s .size)
+unfolding source-cells
+source-ranges s = part-ranges-are (s .bytes .now) (s .bytes .now) (s .parts .now) (s .size)
+
+module _ (s : Source) (h : Was-read s) (rs : List (Run RangeMark)) (e : rs ≡ part-ranges (s .parts .now) (s .size)) where
+  pub source-rises : Rising 0 rs (s .size)
+  source-rises =
+      let l = length-source s in
+      let r = ranges-rise (source-cells s) (omega (arith, h .1 .small)) in
+      subst (λ v. Rising 0 v (s .size)) (source-ranges s ∙ sym e) (subst (λ n. Rising 0 (ranges (source-cells s)) n) l r)
+
+  pub source-length : length (canonical (source-difference s)) ≡ stream-length (s .from .now) (s .to .now) rs
+  source-length =
+      let l = length-source s in
+      length-canonical (source-difference s) (omega (arith, h .1 .small)) ∙ ap (stream-length (s .from .now) (s .to .now)) (source-ranges s ∙ sym e)

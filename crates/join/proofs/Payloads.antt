@@ -57,7 +57,7 @@ module _ (earlier later : List ℕ) (parts : List (Run PayloadMark)) (size : ℕ
       ∙ ap (mapped (cell-of earlier later)) (getD-map-counting (at payload-moves parts) 0 size p p None h (omega arith))
 
   -- positions that name the bytes of a stream one after another have these as payload
-  payload-held : (side : Side) (place pos n : ℕ) → pos + n ≤ size → place + n ≤ length (stream-of earlier later side)
+  pub payload-held : (side : Side) (place pos n : ℕ) → pos + n ≤ size → place + n ≤ length (stream-of earlier later side)
       → ((k : ℕ) → k < n → at payload-moves parts (pos + k) ≡ Some (Written side (place + k)))
       → payload-at (parts-cells earlier later parts size) pos n ≡ take n (drop place (stream-of earlier later side))
   payload-held side place pos n under within each =

@@ -30,7 +30,7 @@ use Rattle.join.specs.Lengths.{marked-length, record-length, records-length, s
 use Rattle.join.specs.Parts.{All-ranged}
 use Rattle.join.proofs.Payloads.{length-payload, length-cells, cells-at}
 
-length-marked : (m : RangeMark) (o n : ℕ) (bs : List ℕ) → length bs ≡ n → length (encoded (range-content m o n bs)) ≡ marked-length m n
+pub length-marked : (m : RangeMark) (o n : ℕ) (bs : List ℕ) → length bs ≡ n → length (encoded (range-content m o n bs)) ≡ marked-length m n
 length-marked range.Zeroed o n bs e = refl
 length-marked range.Written o n bs e = omega arith
 

@@ -49,6 +49,10 @@ pub record Sourced (side : Side) (s : Source) : Type 0 where
   pub from-short : length (s .from .now) ≤ 64
   pub to-short : length (s .to .now) ≤ 64
 
+-- a source on one of the sides
+abbrev pub Was-read : Source → Type 0
+Was-read s = (side : Side) × Sourced side s
+
 -- the join of what two sources mean
 abbrev pub source-join : Source → Source → Difference
 source-join earlier later = joined (source-difference earlier) (source-difference later)

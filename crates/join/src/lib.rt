@@ -4,7 +4,6 @@ ghost use Rattle.fault.specs.Fault.{then};
 ghost use Rattle.fault.specs.declared.kinds.Layer.the-variants as layers;
 ghost use Rattle.stream.specs.Buffers.{filling, filled-by};
 ghost use Rattle.join.specs.Joins.{joined-stream, canonical-stream};
-use canonical::write_source;
 use fault::Cause;
 use fault::Fault;
 use fault::Layer;
@@ -24,6 +23,9 @@ mod plans;
 mod sources;
 mod writing;
 
+pub use canonical::canonical_length;
+pub use canonical::is_canonical;
+pub use canonical::write_source;
 pub use joining::write_joined;
 pub use laws::laws_of_canonical_streams;
 pub use laws::laws_of_joins;

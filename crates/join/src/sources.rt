@@ -51,6 +51,7 @@ pub fn read_source<'s, 'r>(
     runs: &'r mut [Run<PayloadMark>; 512],
 ) -> Result<Source<'s, 'r>, Fault>
     ensures means { λ r. ⌜ meant r ≡ meaning (now (stream .entry)) ⌝ }
+    ensures bytes { λ r. ⌜ made r (λ s. now (s .bytes) ≡ now (stream .entry)) ⌝ }
     ensures sourced { λ r. ⌜ made r (λ s. Sourced side s) ⌝ }
 {
     let summary = read(stream, side, runs)?;

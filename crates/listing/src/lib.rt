@@ -10,10 +10,11 @@ use overlay::Run;
 use overlay::laws_of_runs;
 use stream::MOST_RANGES;
 use stream::read_ranges;
-use text::write_text;
 
 mod numerals;
 mod text;
+
+pub use text::write_text;
 
 // Writes the ranges of a stream to the front of `text`, and tells how many bytes that took. Bytes past
 // the text keep what they held, and a refusal leaves the buffer alone.

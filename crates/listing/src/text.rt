@@ -95,7 +95,7 @@ fn put_text(out: &mut [u8], ranges: &[Run<RangeMark>])
 }
 
 // Writes the text of ranges to the front of a buffer, and tells its length.
-pub(crate) fn write_text(ranges: &[Run<RangeMark>], out: &mut [u8]) -> Result<usize, Fault>
+pub fn write_text(ranges: &[Run<RangeMark>], out: &mut [u8]) -> Result<usize, Fault>
     requires { ⌜ length (now ranges) ≤ 1026 ⌝ }
     ensures result { λ r. ⌜ r ≡ filling Stream (now (out .entry)) (listing (now (ranges .entry))) ⌝ }
     ensures buffer { λ _. ⌜ now (out .exit) ≡ filled (now (out .entry)) (listing (now (ranges .entry))) ⌝ }

@@ -16,3 +16,4 @@ pub mod Promised
 mod Done
 mod Joined
 mod Sourced
+pub mod Reading

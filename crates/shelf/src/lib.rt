@@ -4,7 +4,9 @@ ghost use Rattle.shelf.specs.Refusals.{Refusals-alter-nothing};
 ghost use Rattle.shelf.specs.TableLaws.{Laws-of-tables};
 
 mod bytes;
+mod entries;
 mod joining;
+mod lists;
 mod moves;
 mod settling;
 

@@ -191,7 +191,7 @@ laid-skip (image-size n ∷ ms) ds p g = over-none (laid (ms ++ ds) p) ∙ laid-
 laid-skip (data-at o bytes ∷ ms) ds p g = absurd (g .0)
 laid-skip (zeros-at o n ∷ ms) ds p g = absurd (g .0)
 
-size-kept : (ds : List Content) (n size end : ℕ) → Rising size end ds → size-in n ds ≡ n
+pub size-kept : (ds : List Content) (n size end : ℕ) → Rising size end ds → size-in n ds ≡ n
 size-kept [] n size end r = refl
 size-kept (from-name name ∷ ds) n size end r = absurd r
 size-kept (to-name name ∷ ds) n size end r = absurd r

@@ -1,4 +1,4 @@
-use mathlib.Core.Path.{_≡_, sym, ap, subst, _∙_}
+use mathlib.Core.Path.{_≡_, refl, sym, ap, subst, _∙_}
 use native.Mathlib.Omega.{arith}
 use Prim.Native.Nat.{_-_}
 use mathlib.Core.List.{map}
@@ -17,7 +17,7 @@ pub returns-in-Break-summary : need.returns-in-Break-summary
 returns-in-Break-summary c =
     let y = err-from-errBy (c .from-residual .result) (c .from-residual .ensures .1) in
     let v = gathered-err _ _ _ _ _ (c .in-Break-summary .ensures tt .result) in
-    rw (y .1, y .2) (record { means = sym (meaning-err (c .args .stream .now) _ v); sourced = tt })
+    rw (y .1, y .2) (record { means = sym (meaning-err (c .args .stream .now) _ v); bytes = tt; sourced = tt })
 
 pub returns : need.returns
 unfolding source-cells
@@ -31,6 +31,7 @@ returns c =
     let own = stream-both xs (c .args .side) in
     record {
       means = ap Ok (difference-same _ _ (c .name-in .ensures .bytes ∙ t .tells .from) (c .name-in-2 .ensures .bytes ∙ t .tells .to) (st .means xs xs own)) ∙ sym (meaning-ok xs (t .records) (t .was-read));
+      bytes = refl;
       sourced = record {
         rising = st .rising;
         inside = st .inside;
