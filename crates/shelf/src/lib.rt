@@ -5,6 +5,7 @@ ghost use Rattle.shelf.specs.TableLaws.{Laws-of-tables};
 
 mod entries;
 mod lists;
+mod puts;
 
 // The laws of the shelf. Tables: what the operations on the table keep. Refusals: a refused call alters
 // nothing, but for the image where the store stopped a settle. Comes back: after every series of puts,
