@@ -14,3 +14,4 @@ pub mod Refused
 pub mod Shown
 pub mod Promised
 pub mod Reading
+pub mod Putting

@@ -1,17 +1,25 @@
 ghost use mathlib.Core.Path.{_≡_};
 ghost use Prim.Native.Nat.{_≤_};
 ghost use lib.ListN.{length};
-ghost use Rattle.fault.specs.Fault.{then};
-ghost use Rattle.join.specs.Sources.{source-difference, Was-read};
+ghost use Rattle.fault.specs.Fault.{fault, then};
+ghost use Rattle.fault.specs.declared.kinds.Cause.the-variants as causes;
+ghost use Rattle.join.specs.Sources.{meant, source-difference, Sourced, Was-read};
+ghost use Rattle.overlay.specs.declared.payloads.Side.the-variants.{Later};
+ghost use Rattle.std.specs.Vec.{made};
 ghost use Rattle.std.specs.declared.result.Result.the-variants.{Ok};
-ghost use Rattle.stream.specs.Difference.{canonical};
+ghost use Rattle.stream.specs.Difference.{meaning, canonical};
 ghost use Rattle.table.specs.Held.{table-of};
-ghost use Rattle.shelf.specs.Outcomes.{put-fits};
+ghost use Rattle.shelf.specs.Entries.{refuse-if, is-short};
+ghost use Rattle.shelf.specs.Outcomes.{put-fits, put-plan};
 use fault::Cause;
 use fault::Fault;
 use fault::Layer;
 use join::Source;
 use join::canonical_length;
+use join::read_source;
+use overlay::PayloadMark;
+use overlay::Run;
+use overlay::Side;
 use table::EntryTable;
 
 // Whether a source may be added to a shelf: it leads on to a new name, and there is room in the table
@@ -36,4 +44,40 @@ fn check_fit(table: &EntryTable, source: Source, bytes: &[u8]) -> Result<u64, Fa
         return Err(Fault::new(Cause::ShortBuffer, needed).at_layer(Layer::Shelf));
     }
     Ok(length)
+}
+
+// Reads a stream that may be added to the shelf.
+fn fit_stream<'s, 'r>(
+    table: &EntryTable,
+    bytes: &[u8],
+    stream: &'s [u8],
+    runs: &'r mut [Run<PayloadMark>; 512],
+) -> Result<Source<'s, 'r>, Fault>
+    ensures means { λ r. ⌜ meant r ≡ refuse-if (is-short (table-of (now (table .entry))) (now (bytes .entry))) (fault causes.Damaged 0) (then (meaning (now (stream .entry))) (put-fits (table-of (now (table .entry))) (now (bytes .entry)))) ⌝ }
+    ensures sourced { λ r. ⌜ made r (λ s. Sourced Later s) ⌝ }
+{
+    if bytes.len() < table.fill() {
+        return Err(Fault::new(Cause::Damaged, 0));
+    }
+    let source = read_source(stream, Side::Later, runs)?;
+    match check_fit(table, source, bytes) {
+        Ok(_) => Ok(source),
+        Err(fault) => Err(fault),
+    }
+}
+
+// The same, with the number that the entry would have had in each fault.
+pub(crate) fn plan_put<'s, 'r>(
+    table: &EntryTable,
+    bytes: &[u8],
+    stream: &'s [u8],
+    runs: &'r mut [Run<PayloadMark>; 512],
+) -> Result<Source<'s, 'r>, Fault>
+    ensures means { λ r. ⌜ meant r ≡ put-plan (table-of (now (table .entry))) (now (bytes .entry)) (now (stream .entry)) ⌝ }
+    ensures sourced { λ r. ⌜ made r (λ s. Sourced Later s) ⌝ }
+{
+    match fit_stream(table, bytes, stream, runs) {
+        Ok(source) => Ok(source),
+        Err(fault) => Err(fault.in_entry(table.count() as u64)),
+    }
 }
