@@ -1,5 +1,5 @@
 ghost use mathlib.Core.Path.{_≡_};
-ghost use Prim.Native.Nat.{_≤_};
+ghost use Prim.Native.Nat.{_+_, _≤_};
 ghost use lib.ListN.{length};
 ghost use Rattle.fault.specs.Fault.{fault, then};
 ghost use Rattle.fault.specs.declared.kinds.Cause.the-variants as causes;
@@ -9,7 +9,7 @@ ghost use Rattle.std.specs.Vec.{made};
 ghost use Rattle.std.specs.declared.result.Result.the-variants.{Ok};
 ghost use Rattle.stream.specs.Difference.{meaning, canonical};
 ghost use Rattle.table.specs.Held.{table-of};
-ghost use Rattle.shelf.specs.Entries.{refuse-if, is-short};
+ghost use Rattle.shelf.specs.Entries.{refuse-if, is-short, replaced};
 ghost use Rattle.shelf.specs.Outcomes.{put-fits, put-plan};
 use fault::Cause;
 use fault::Fault;
@@ -17,6 +17,7 @@ use fault::Layer;
 use join::Source;
 use join::canonical_length;
 use join::read_source;
+use join::write_source;
 use overlay::PayloadMark;
 use overlay::Run;
 use overlay::Side;
@@ -79,5 +80,17 @@ pub(crate) fn plan_put<'s, 'r>(
     match fit_stream(table, bytes, stream, runs) {
         Ok(source) => Ok(source),
         Err(fault) => Err(fault.in_entry(table.count() as u64)),
+    }
+}
+
+// Writes the canonical stream of a source into the bytes from the fill on.
+fn write_at(source: Source, bytes: &mut [u8], fill: usize)
+    requires sourced { ⌜ Sourced Later source ⌝ }
+    requires room { ⌜ fill + length (canonical (source-difference source)) ≤ length (now bytes) ⌝ }
+    ensures { λ _. ⌜ now (bytes .exit) ≡ replaced fill (now (bytes .entry)) fill fill (canonical (source-difference (source .entry))) ⌝ }
+{
+    match write_source(source, &mut bytes[fill..]) {
+        Ok(_) => {}
+        Err(_) => unreachable(),
     }
 }
