@@ -17,3 +17,4 @@ mod Done
 mod Joined
 mod Sourced
 pub mod Reading
+pub mod Putting

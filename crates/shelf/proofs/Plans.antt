@@ -41,7 +41,7 @@ pub record Put-planned (t : Table) (bytes stream : List ℕ) (d : Difference) : 
   pub means : meaning stream ≡ Ok d
   pub room : t .fill + length (canonical d) ≤ length bytes
 
-put-fitted : (t : Table) (bytes : List ℕ) (e d : Difference) → put-fits t bytes e ≡ Ok d → (t .fill + length (canonical e) ≤ length bytes) × (e ≡ d)
+pub put-fitted : (t : Table) (bytes : List ℕ) (e d : Difference) → put-fits t bytes e ≡ Ok d → (t .fill + length (canonical e) ≤ length bytes) × (e ≡ d)
 put-fitted t bytes e d h =
     let a = passes (not (same (e .from) (next-name t))) _ _ d h in
     let b = passes (leb 64 (length (t .rows))) _ _ d (a .1) in

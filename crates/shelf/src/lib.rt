@@ -8,6 +8,7 @@ mod entries;
 mod joining;
 mod lists;
 mod moves;
+mod puts;
 mod settling;
 
 // The laws of the shelf. Tables: what the operations on the table keep. Refusals: a refused call alters
