@@ -16,7 +16,10 @@ import sys
 
 CHARS = r"[\w'\u2032\u00b7+-]"
 TOKEN = re.compile(r"(?<![\w'\u2032])[A-Za-z_]" + CHARS + r"*")
-DEFINED = re.compile(r"^\s*(?:(?:abbrev|unfoldable|pub|package|open|record|data|infixl?|infixr)\s+)*([A-Za-z_]" + CHARS + r"*)\s+(:|\{|\()")
+DEFINED = re.compile(
+    r"^\s*(?:(?:(?:abbrev|unfoldable|pub|package|open|infixl?|infixr)\s+)*(?:record|data)\s+([A-Za-z_]" + CHARS + r"*)"
+    r"|(?:(?:abbrev|unfoldable|pub|package|open|infixl?|infixr)\s+)*([A-Za-z_]" + CHARS + r"*(?:\s+[A-Za-z_]" + CHARS + r"*)*)\s+:)"
+)
 USE = re.compile(r"^\s*(?:pub\s+)?(?:ghost\s+)?use\s+([^\s{;]+?)(?:\.\{([^}]*)\})?(?:\s+as\s+([\w'-]+))?\s*;?\s*$")
 CLAUSE = re.compile(r"^\s*(?:pub(?:\([a-z]+\))?\s+)?(?:requires|ensures|ghost)\b")
 
@@ -60,10 +63,9 @@ def defined(path, text):
         m = DEFINED.match(code)
         if not m or code.lstrip().startswith(("let ", "in ", "use ", "module ", "unfolding ")):
             continue
-        name = m.group(1)
         if is_answers(path) and re.search(r":\s*(?:goal|need)\.", code):
             continue
-        names.add(name)
+        names.update((m.group(1) or m.group(2)).split())
     return names
 
 
@@ -122,7 +124,7 @@ def main():
                 inside = False
             m = DEFINED.match(code)
             if inside and m:
-                fields.add(m.group(1))
+                fields.update((m.group(1) or m.group(2)).split())
 
     together = []
     changed = {}

@@ -1,5 +1,7 @@
 // Applying a stream to an image, in any store: the image is resized, and then takes the stream's
 // canonical records in turn.
+#![tactic(auto)]
+
 ghost use Rattle.std.specs.Prelude.{◌≡◌};
 ghost use Rattle.apply.specs.Applies.{apply_steps, apply_read, apply_answer};
 ghost use Rattle.apply.specs.Read.{WellParted, part_steps};

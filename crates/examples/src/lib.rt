@@ -1,5 +1,7 @@
 // The worked examples of the rules, as one list (specs/Examples.antt), and one theorem: the definitions
 // that the contracts of the calls cite give every one of them.
+#![tactic(auto)]
+
 ghost use Rattle.examples.specs.Examples.{examples, Holds};
 ghost use Rattle.std.specs.List.{AllByRecursion as All};
 

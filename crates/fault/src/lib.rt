@@ -1,5 +1,7 @@
 // Refusals: what every layer answers when it turns a call away. A layer makes a fault, and the layers
 // above hand it on by `?` and add the record and the entry, nothing else.
+#![tactic(auto)]
+
 ghost use Rattle.std.specs.Prelude.{◌≡◌, ℕ};
 ghost use Rattle.fault.specs.Fault.{cause_number, layer_number, layer_of, place_of, fault, at_layer, in_record, in_entry, fault_by};
 

@@ -1,4 +1,6 @@
 // The join of two streams, and the canonical stream of one.
+#![tactic(auto)]
+
 ghost use Rattle.std.specs.Prelude.{◌≡◌};
 ghost use Rattle.fault.specs.Fault.{then};
 ghost use Rattle.fault.specs.declared.kinds.Layer.TheVariants as layers;

@@ -1,4 +1,6 @@
 // The list of a stream: its canonical ranges as lines of text.
+#![tactic(auto)]
+
 ghost use Rattle.std.specs.Prelude.{◌≡◌};
 ghost use Rattle.stream.specs.Buffers.{filled_by};
 ghost use Rattle.listing.specs.Laws.{RangesAreLongest, BlindToPayload};

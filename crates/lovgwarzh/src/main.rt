@@ -1,4 +1,6 @@
 // The command line: difference streams in files are checked, listed, joined, and applied to an image.
+#![tactic(auto)]
+
 use command::{Command, USAGE, parse};
 use commands::{apply_to_file, check_file, join_files, list_file};
 use failure::Failure;

@@ -1,5 +1,7 @@
 // The calls for C, over byte slices and numbers: a slice is a pointer and then a length. Declared in
 // include/lovgwarzh.h.
+#![tactic(auto)]
+
 ghost use Rattle.std.specs.Prelude.{◌≡◌, Ok};
 ghost use Rattle.fault.specs.Fault.{then};
 ghost use Rattle.fault.specs.declared.kinds.Layer.TheVariants as layers;

@@ -17,6 +17,6 @@ pub fn laws_of_maps<M, N>()
 
 // A difference has one list of canonical runs.
 pub fn laws_of_runs<M: Mark>()
-    ensures one_runs { OneRuns moves }
-    ensures runs_exist { RunsExist moves alike }
+    ensures one_runs { OneRuns M.moves }
+    ensures runs_exist { RunsExist M.moves M.alike }
 {}

@@ -1,5 +1,7 @@
 // Runs of marked bytes, and the overlay of an earlier difference by a later one, written once for
 // every kind of mark. A difference is a size and runs below it; a position under no run is kept.
+#![tactic(auto)]
+
 mod cursors;
 mod laws;
 mod marks;

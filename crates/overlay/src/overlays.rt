@@ -10,7 +10,7 @@ use super::runs::{Piece, Run};
 // Whether `next` begins where `last` ends and goes on as it.
 fn continues<M: Mark + Copy>(last: Run<M>, next: Run<M>) -> bool
     requires { ends last < 2 ^ 64 }
-    ensures { Decides result ((ends last ≡ next.offset) × (moves last.mark last.length ≡ next.mark)) }
+    ensures { Decides result ((ends last ≡ next.offset) × (M.moves last.mark last.length ≡ next.mark)) }
 {
     last.offset + last.length == next.offset && last.mark.moved(last.length).same(next.mark)
 }
@@ -20,10 +20,10 @@ fn continues<M: Mark + Copy>(last: Run<M>, next: Run<M>) -> bool
 fn push<M: Mark + Copy>(out: &mut [Run<M>], k: usize, r: Run<M>) -> Option<usize>
     requires within { k ≤ length out.old }
     requires rising { Rising 0 (take k out.old) r.offset }
-    requires apart { Apart moves (take k out.old) }
+    requires apart { Apart M.moves (take k out.old) }
     requires some { 1 ≤ r.length }
     requires fits { ends r < 2 ^ 64 }
-    ensures counted { Counted result out.new (Pushed moves (take k out.old) r) }
+    ensures counted { Counted result out.new (Pushed M.moves (take k out.old) r) }
     ensures behind { Behind k result out.old out.new }
 {
     if k > 0 {
@@ -47,9 +47,9 @@ fn push<M: Mark + Copy>(out: &mut [Run<M>], k: usize, r: Run<M>) -> Option<usize
 // Adds the run of a piece that has a mark.
 fn add<M: Mark + Copy>(out: &mut [Run<M>], k: usize, pos: u64, piece: Piece<M>) -> Option<usize>
     requires within { k ≤ length out.old }
-    requires canonical { Canonical moves (take k out.old) pos }
+    requires canonical { Canonical M.moves (take k out.old) pos }
     requires more { pos < piece.stop }
-    ensures counted { Counted result out.new (Grown moves (take k out.old) pos piece) }
+    ensures counted { Counted result out.new (Grown M.moves (take k out.old) pos piece) }
     ensures behind { Behind k result out.old out.new }
 {
     match piece.state {
@@ -78,8 +78,8 @@ fn overlay_pieces<M: Mark + Copy>(
     requires earlier_rising { Rising 0 earlier.now earlier_size }
     requires later_rising { Rising 0 later.now later_size }
     ensures room { 2 * (length earlier.now + length later.now) + 2 ≤ length out.new → is_some result ≡ true }
-    ensures runs { AnswersOf moves (overlaid_at moves filler earlier.now earlier_size later.now) later_size result out.new }
-    ensures equal { Answers (runs_from moves alike 0 (overlaid filler (painted moves earlier.now earlier_size) (painted moves later.now later_size))) result out.new }
+    ensures runs { AnswersOf M.moves (overlaid_at M.moves M.filler earlier.now earlier_size later.now) later_size result out.new }
+    ensures equal { Answers (runs_from M.moves M.alike 0 (overlaid M.filler (painted M.moves earlier.now earlier_size) (painted M.moves later.now later_size))) result out.new }
     ensures behind { Behind 0 result out.old out.new }
 {
     let mut pos = 0;
@@ -109,8 +109,8 @@ pub fn overlay<M: Mark + Copy>(
     requires earlier_rising { Rising 0 earlier.now earlier_size }
     requires later_rising { Rising 0 later.now later_size }
     ensures room { 2 * (length earlier.now + length later.now) + 2 ≤ length out.new → is_some result ≡ true }
-    ensures runs { AnswersOf moves (overlaid_at moves filler earlier.now earlier_size later.now) later_size result out.new }
-    ensures equal { Answers (runs_from moves alike 0 (overlaid filler (painted moves earlier.now earlier_size) (painted moves later.now later_size))) result out.new }
+    ensures runs { AnswersOf M.moves (overlaid_at M.moves M.filler earlier.now earlier_size later.now) later_size result out.new }
+    ensures equal { Answers (runs_from M.moves M.alike 0 (overlaid M.filler (painted M.moves earlier.now earlier_size) (painted M.moves later.now later_size))) result out.new }
     ensures behind { Behind 0 result out.old out.new }
 {
     overlay_pieces(earlier, earlier_size, later, later_size, out)

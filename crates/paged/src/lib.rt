@@ -1,4 +1,6 @@
 // An image in pages of 256 bytes: only the pages with a non-zero byte take a page of the lent pool.
+#![tactic(auto)]
+
 mod image;
 mod pages;
 

@@ -1,4 +1,6 @@
 // Series of calls on a shelf, and what the shelf promises about every one of them.
+#![tactic(auto)]
+
 ghost use Rattle.replay.specs.Promise.{AlwaysComesBack};
 ghost use Rattle.replay.specs.Refusals.{RefusalsAlterNothing};
 ghost use Rattle.replay.specs.TableLaws.{LawsOfTables};

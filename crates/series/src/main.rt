@@ -13,6 +13,8 @@
 // the line before told it is told as `same`. A series whose shelf is refused has no steps, and nothing is told but the fault.
 // Bytes are in hexadecimal, `-` for none; more than 200 are told as LENGTH:CHECKSUM, by FNV-1a with 64 bits. Before the first step byte i of the
 // shelf's bytes holds i modulo 251, and so does a buffer before its call.
+#![tactic(auto)]
+
 use anyhow::anyhow;
 use fault::Fault;
 use paged::PagedImage;

@@ -1,5 +1,7 @@
 // A shelf at work, for the measurements under bench/: a call makes a shelf over memory from C, puts streams on it, joins and settles.
 // How many calls were accepted is answered, so that a measurement can tell that the work was done.
+#![tactic(auto)]
+
 ghost use Rattle.std.specs.Prelude.{◌+◌, ◌≤◌, length};
 
 use shelf::Shelf;

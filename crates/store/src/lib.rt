@@ -1,5 +1,7 @@
 // Stores: what keeps the bytes of an image. The contract is one trait, `Store`; the flat image keeps
 // its bytes in one piece of lent memory.
+#![tactic(auto)]
+
 mod contract;
 mod flat;
 mod memory;

@@ -1,5 +1,7 @@
 // Stores at work, for the measurements under bench/: each call opens an image over memory from C and works on it for a while. How many
 // store calls were accepted is answered, so that a measurement can tell that the work was done.
+#![tactic(auto)]
+
 ghost use Rattle.std.specs.Prelude.{◌+◌, ◌≤◌, length};
 
 use paged::PagedImage;

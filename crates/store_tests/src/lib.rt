@@ -1,4 +1,6 @@
 // Stores at work, on a full pool and at an image's end.
+#![tactic(auto)]
+
 #[cfg(test)]
 mod tests {
     use fault::Fault;

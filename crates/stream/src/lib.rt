@@ -1,4 +1,6 @@
 // Streams: reading, checking, and what a stream is and means.
+#![tactic(auto)]
+
 ghost use Rattle.std.specs.Prelude.{◌≡◌, suc, length, take};
 ghost use Rattle.stream.specs.Places.{PlacesTell};
 ghost use Rattle.stream.specs.Stands.{pos_of, rest_of};

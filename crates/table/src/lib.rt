@@ -1,3 +1,5 @@
+#![tactic(auto)]
+
 mod entry;
 mod name;
 mod rows;

@@ -5,6 +5,8 @@
 //   flat ROOM IMAGE NAME BYTES            applies a stream to a flat image over ROOM bytes of memory
 //   paged PLACES PAGES IMAGE NAME BYTES   the same to a paged image; `done` or the five numbers, and the image
 // Bytes are in hexadecimal, `-` for none; a buffer holds AA everywhere before the call.
+#![tactic(auto)]
+
 use anyhow::anyhow;
 use apply::apply;
 use fault::Fault;

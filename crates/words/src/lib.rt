@@ -1,4 +1,6 @@
 // What a line of a case is made of: bytes as hexadecimal words, and the five numbers of a fault.
+#![tactic(auto)]
+
 ghost use Rattle.std.specs.Prelude.{◌≡◌, ◌<◌, IfOk, string_bytes};
 ghost use Rattle.words.specs.Digits.{digit_of};
 ghost use Rattle.words.specs.Numbers.{numbers_of};

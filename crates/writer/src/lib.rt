@@ -1,6 +1,8 @@
 // Writing streams. The field writers put bytes at the front of the tail that they are lent. The
 // writer goes through three states, each a type of its own that the next call takes: opened,
 // recording, ended. The buffer is lent at each call.
+#![tactic(auto)]
+
 ghost use Rattle.writer.specs.Whole.{EndedIsStream};
 
 use stream::laws_of_reading;

@@ -25,23 +25,23 @@ returns-then-pos-earlier-size g c =
 
 pub returns : goal.returns
 returns g c =
-    let none : is_some c.look-over.result.state ≡ false = sym c.is-some.ensures ∙ c.if-is-some.false in
+    let none : is_some c.look-over.result.state ≡ false = sym c.is_some.ensures ∙ c.if-is_some.false in
     let over = c.look-over.ensures in
     let under = c.look-under.ensures in
     let a = c.look-over.result.stop in
     let b = c.look-under.result.stop in
-    let nearer : edges (min b a) c.args.earlier.now c.args.earlier-size + edges (min b a) c.args.later.now c.args.later-size
-    < edges c.args.pos c.args.earlier.now c.args.earlier-size + edges c.args.pos c.args.later.now c.args.later-size =
+    let nearer : edges (min b a) c.args.earlier.now c.args.earlier_size + edges (min b a) c.args.later.now c.args.later-size
+    < edges c.args.pos c.args.earlier.now c.args.earlier_size + edges c.args.pos c.args.later.now c.args.later-size =
     ⊎_elim
     (λ h.
     let m : min b a ≡ b = omega arith in
     rw m (omega (arith, under.nears, edges_on c.args.later.now c.args.pos c.args.later-size b (omega (arith, under.even.more)))))
     (λ h.
     let m : min b a ≡ a = omega arith in
-    rw m (omega (arith, over.nears, edges_on c.args.earlier.now c.args.pos c.args.earlier-size a (omega (arith, over.even.more)))))
+    rw m (omega (arith, over.nears, edges_on c.args.earlier.now c.args.pos c.args.earlier_size a (omega (arith, over.even.more)))))
     (cases_lt b a) in
     rw c.min.ensures
     (record {
-      even = even_under g.M.Mark.moves g.M.Mark.filler c.args.earlier.now c.args.earlier-size c.args.later.now c.args.pos c.args.later-size c.look-over.result over.even none c.look-under.result under.even;
+      even = even_under g.M.Mark.moves g.M.Mark.filler c.args.earlier.now c.args.earlier_size c.args.later.now c.args.pos c.args.later-size c.look-over.result over.even none c.look-under.result under.even;
       nears = nearer;
     })

@@ -5,5 +5,5 @@ use Rattle.overlay.proofs.laws.laws_of_runs.Goals as goal
 pub returns : goal.returns
 returns g c = record {
   one_runs = one_runs g.M.Mark.moves g.met.M.Mark.still;
-  runs-exist = exists g.M.Mark.moves g.M.Mark.alike g.met.M.Mark.tells g.met.M.Mark.still g.met.M.Mark.further;
+  runs_exist = exists g.M.Mark.moves g.M.Mark.alike g.met.M.Mark.tells g.met.M.Mark.still g.met.M.Mark.further;
 }

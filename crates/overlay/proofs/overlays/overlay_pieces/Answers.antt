@@ -9,23 +9,23 @@ use Rattle.overlay.proofs.overlays.overlay_pieces.Goals as goal
 
 pub skip-i-requires : goal.skip-i-requires
 skip-i-requires g c =
-    let fits : c.args.earlier-size < 2 ^ 64 = search rules in
-    record { rising = rising_wider 0 c.args.earlier-size _ c.args.earlier.now c.requires.earlier-rising (omega arith); cursor = c.loop-pos.invariant.3 }
+    let fits : c.args.earlier_size < 2 ^ 64 = search rules in
+    record { rising = rising_wider 0 c.args.earlier_size _ c.args.earlier.now c.requires.earlier-rising (omega arith); cursor = c.loop-pos.invariant.3 }
 
 pub skip-j-requires : goal.skip-j-requires
 skip-j-requires g c =
-    let fits : c.args.later-size < 2 ^ 64 = search rules in
-    record { rising = rising_wider 0 c.args.later-size _ c.args.later.now c.requires.later-rising (omega arith); cursor = c.loop-pos.invariant.4 }
+    let fits : c.args.later_size < 2 ^ 64 = search rules in
+    record { rising = rising_wider 0 c.args.later_size _ c.args.later.now c.requires.later-rising (omega arith); cursor = c.loop-pos.invariant.4 }
 
 pub loop-pos-init : goal.loop-pos-init
 loop-pos-init g c =
     let m = g.M.Mark in (
       omega arith,
       omega arith,
-      runs_none m.moves (overlaid_at m.moves m.filler c.args.earlier.now c.args.earlier-size c.args.later.now),
+      runs_none m.moves (overlaid_at m.moves m.filler c.args.earlier.now c.args.earlier_size c.args.later.now),
       cursor_none m.moves c.args.earlier.now,
       cursor_none m.moves c.args.later.now,
-      omega (arith, edges_all c.args.earlier.now 0 c.args.earlier-size, edges_all c.args.later.now 0 c.args.later-size),
+      omega (arith, edges_all c.args.earlier.now 0 c.args.earlier_size, edges_all c.args.later.now 0 c.args.later-size),
       refl,
     )
 
@@ -51,7 +51,7 @@ pub loop-pos-preserved : goal.loop-pos-preserved
 loop-pos-preserved g c =
     let m = g.M.Mark in
     let even = c.covered-piece.ensures.even in
-    let states = overlaid_at m.moves m.filler c.args.earlier.now c.args.earlier-size c.args.later.now in
+    let states = overlaid_at m.moves m.filler c.args.earlier.now c.args.earlier_size c.args.later.now in
     let stop = c.covered-piece.result.stop in
     let on : c.loop-pos.pos ≤ c.covered-piece.result.stop = omega (arith, even.more) in
     let got = c.in-ok-k.ensures.counted in
@@ -68,7 +68,7 @@ loop-pos-preserved g c =
 pub returns : goal.returns
 returns g c =
     let m = g.M.Mark in
-    let size = c.args.later-size in
+    let size = c.args.later_size in
     let states = overlaid_at m.moves m.filler c.args.earlier.now c.args.earlier-size c.args.later.now in
     let fits : size < 2 ^ 64 = search rules in
     let end : c.loop-pos.pos ≡ size = omega (arith, c.loop-pos.invariant.0) in
