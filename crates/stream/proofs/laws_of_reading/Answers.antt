@@ -9,7 +9,7 @@ pub returns : goal.returns
 returns c =
     record {
       reads_back = reads_back;
-      is-stream = accepted_is_stream;
+      is_stream = accepted_is_stream;
       accepted = accepted_exactly;
       refused = refused_exactly;
       sound = sound_exactly;

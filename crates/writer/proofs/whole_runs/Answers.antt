@@ -2,4 +2,4 @@ use Rattle.writer.proofs.Series.{ended_is_stream}
 use Rattle.writer.proofs.whole_runs.Goals as goal
 
 pub returns : goal.returns
-returns c = ended_is_stream c.laws-of-reading.ensures.reads_back
+returns c = ended_is_stream c.laws_of_reading.ensures.reads_back

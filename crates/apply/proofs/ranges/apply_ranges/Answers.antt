@@ -19,19 +19,19 @@ use Rattle.apply.proofs.ranges.apply_ranges.Goals as goal
 abbrev none : Run RangeMark
 none = record { offset = 0; length = 0; mark = Zeroed }
 
-pub parts-inside-first-requires : goal.parts-inside-first-requires
-parts-inside-first-requires g c =
+pub parts_inside-first-requires : goal.parts_inside-first-requires
+parts_inside-first-requires g c =
     let rs = c.args.ranges.now in
     let h = rising_at rs c.loop-i.i none c.args.stream.size c.loop-i-test.true c.requires.rising in
     let l = rising_le (ends (get_or rs c.loop-i.i none)) c.args.stream.size (drop (c.loop-i.i + 1) rs) h.2 in
     record { within = c.loop-i.invariant.0; fits = omega arith }
 
-pub apply-range-requires : goal.apply-range-requires
-apply-range-requires g c =
+pub apply_range-requires : goal.apply_range-requires
+apply_range-requires g c =
     let lie = c.requires.parts.lie in
     let xs = c.args.stream.bytes.now in
     let parts = c.args.stream.parts.now in
-    let w = c.parts-inside-first.result in
+    let w = c.parts_inside-first.result in
     (lie.0, payloads_take lie.0 xs (w.end - w.first) (drop w.first parts) (payloads_drop lie.0 xs w.first parts lie.1))
 
 -- the steps of a turn, and those that are left
@@ -41,8 +41,8 @@ here xs parts n r w = numbered n (handed r.mark r.offset r.length (map (held xs)
 abbrev left : List ℕ → List (Run PayloadMark) → ℕ → ℕ → List (Run RangeMark) → List Step
 left xs parts n next rs = steps_from n (map (held xs) (drop next parts)) rs
 
-pub returns-in-err-apply-range : goal.returns-in-err-apply-range
-returns-in-err-apply-range g c =
+pub returns-in_err-apply_range : goal.returns-in_err-apply_range
+returns-in_err-apply_range g c =
     let m = g.S.Store in
     let i = c.loop-i.i in
     let next = c.loop-i.next in
@@ -50,15 +50,15 @@ returns-in-err-apply-range g c =
     let parts = c.args.stream.parts.now in
     let size = c.args.stream.size in
     let rs = c.args.ranges.now in
-    let w = c.parts-inside-first.result in
-    let p = err_from_is_err_and c.from-residual.result c.from-residual.ensures.1 in
+    let w = c.parts_inside-first.result in
+    let p = err_from_is_err_and c.from_residual.result c.from_residual.ensures.1 in
     record {
-      same = c.apply-range.ensures.same ∙ c.loop-i.invariant.1;
-      outcome = ends_here (m.holds c.args.store.now) (m.holds c.loop-i.store) (m.image c.loop-i.store) (m.image c.apply-range.new.store) c.apply-range.result
+      same = c.apply_range.ensures.same ∙ c.loop-i.invariant.1;
+      outcome = ends_here (m.holds c.args.store.now) (m.holds c.loop-i.store) (m.image c.loop-i.store) (m.image c.apply_range.new.store) c.apply_range.result
           (left xs parts (i + 1) next (drop i rs)) (here xs parts (i + 1) (get_or rs i none) w) (left xs parts (i + 1 + 1) w.end (drop (i + 1) rs)) _
-          c.loop-i.invariant.1 c.apply-range.ensures.outcome
-          (window_steps xs parts next size (i + 1) rs i none size w c.loop-i-test.true c.requires.parts.rising c.requires.rising c.parts-inside-first.ensures) c.loop-i.invariant.2
-          _ c.from-residual.result c.in-err-apply-range.was (p.1 ∙ ap Err p.2);
+          c.loop-i.invariant.1 c.apply_range.ensures.outcome
+          (window_steps xs parts next size (i + 1) rs i none size w c.loop-i-test.true c.requires.parts.rising c.requires.rising c.parts_inside-first.ensures) c.loop-i.invariant.2
+          _ c.from_residual.result c.in_err-apply_range.was (p.1 ∙ ap Err p.2);
     }
 
 pub loop-i-preserved : goal.loop-i-preserved
@@ -70,14 +70,14 @@ loop-i-preserved g c =
     let parts = c.args.stream.parts.now in
     let size = c.args.stream.size in
     let rs = c.args.ranges.now in
-    let w = c.parts-inside-first.result in (
-      c.parts-inside-first.ensures.within,
-      c.apply-range.ensures.same ∙ c.loop-i.invariant.1,
-      goes_on (m.holds c.args.store.now) (m.holds c.loop-i.store) (m.image c.loop-i.store) (m.image c.apply-range.new.store) c.apply-range.result
+    let w = c.parts_inside-first.result in (
+      c.parts_inside-first.ensures.within,
+      c.apply_range.ensures.same ∙ c.loop-i.invariant.1,
+      goes_on (m.holds c.args.store.now) (m.holds c.loop-i.store) (m.image c.loop-i.store) (m.image c.apply_range.new.store) c.apply_range.result
           (left xs parts (i + 1) next (drop i rs)) (here xs parts (i + 1) (get_or rs i none) w) (left xs parts (i + 1 + 1) w.end (drop (i + 1) rs)) _
-          c.loop-i.invariant.1 c.apply-range.ensures.outcome
-          (window_steps xs parts next size (i + 1) rs i none size w c.loop-i-test.true c.requires.parts.rising c.requires.rising c.parts-inside-first.ensures) c.loop-i.invariant.2
-          _ c.in-ok-apply-range.was,
+          c.loop-i.invariant.1 c.apply_range.ensures.outcome
+          (window_steps xs parts next size (i + 1) rs i none size w c.loop-i-test.true c.requires.parts.rising c.requires.rising c.parts_inside-first.ensures) c.loop-i.invariant.2
+          _ c.in_ok-apply_range.was,
     )
 
 pub returns : goal.returns

@@ -10,9 +10,9 @@ returns c =
     let parts = c.args.parts.now in
     let next = c.args.next in
     let r = c.args.range in
-    let first = next + c.count-before.result in
-    let one = c.count-before.ensures.count ∙ ap (prefix_len (before r.offset)) (take_rest parts next) in
-    let two = c.count-before-2.ensures.count ∙ ap (prefix_len (before (r.offset + r.length))) (take_rest parts first) in
+    let first = next + c.count_before.result in
+    let one = c.count_before.ensures.count ∙ ap (prefix_len (before r.offset)) (take_rest parts next) in
+    let two = c.count_before-2.ensures.count ∙ ap (prefix_len (before (r.offset + r.length))) (take_rest parts first) in
     let some = prefix_len-le-length (before r.offset) (drop next parts) in
     let more = prefix_len-le-length (before (r.offset + r.length)) (drop first parts) in
     record {

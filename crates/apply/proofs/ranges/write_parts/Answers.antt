@@ -15,24 +15,24 @@ use Rattle.apply.proofs.ranges.write_parts.Goals as goal
 abbrev none : Run PayloadMark
 none = record { offset = 0; length = 0; mark = Zeroed }
 
-pub write-part-requires : goal.write-part-requires
-write-part-requires g c =
+pub write_part-requires : goal.write_part-requires
+write_part-requires g c =
     (c.requires.0, payload_getD c.requires.0 c.args.stream.now c.args.parts.now c.loop-part.part-index none c.requires.1 c.loop-part-test.true)
 
-pub returns-in-err-write-part : goal.returns-in-err-write-part
-returns-in-err-write-part g c =
+pub returns-in_err-write_part : goal.returns-in_err-write_part
+returns-in_err-write_part g c =
     let m = g.S.Store in
     let i = c.loop-part.part-index in
     let xs = c.args.stream.now in
     let parts = c.args.parts.now in
     let n = c.args.record in
-    let p = err_from_is_err_and c.from-residual.result c.from-residual.ensures.1 in
+    let p = err_from_is_err_and c.from_residual.result c.from_residual.ensures.1 in
     record {
-      same = c.write-part.ensures.same ∙ c.loop-part.invariant.0;
-      outcome = ends_here (m.holds c.args.store.now) (m.holds c.loop-part.store) (m.image c.loop-part.store) (m.image c.write-part.new.store) c.write-part.result
+      same = c.write_part.ensures.same ∙ c.loop-part.invariant.0;
+      outcome = ends_here (m.holds c.args.store.now) (m.holds c.loop-part.store) (m.image c.loop-part.store) (m.image c.write_part.new.store) c.write_part.result
           (numbered n (writes (map (held xs) (drop i parts)))) (numbered n (writes (held xs (get_or parts i none) ∷ []))) (numbered n (writes (map (held xs) (drop (i + 1) parts)))) _
-          c.loop-part.invariant.0 c.write-part.ensures.outcome (writes_more xs n parts i none c.loop-part-test.true) c.loop-part.invariant.1
-          _ c.from-residual.result c.in-err-write-part.was (p.1 ∙ ap Err p.2);
+          c.loop-part.invariant.0 c.write_part.ensures.outcome (writes_more xs n parts i none c.loop-part-test.true) c.loop-part.invariant.1
+          _ c.from_residual.result c.in_err-write_part.was (p.1 ∙ ap Err p.2);
     }
 
 pub loop-part-preserved : goal.loop-part-preserved
@@ -42,11 +42,11 @@ loop-part-preserved g c =
     let xs = c.args.stream.now in
     let parts = c.args.parts.now in
     let n = c.args.record in (
-      c.write-part.ensures.same ∙ c.loop-part.invariant.0,
-      goes_on (m.holds c.args.store.now) (m.holds c.loop-part.store) (m.image c.loop-part.store) (m.image c.write-part.new.store) c.write-part.result
+      c.write_part.ensures.same ∙ c.loop-part.invariant.0,
+      goes_on (m.holds c.args.store.now) (m.holds c.loop-part.store) (m.image c.loop-part.store) (m.image c.write_part.new.store) c.write_part.result
           (numbered n (writes (map (held xs) (drop i parts)))) (numbered n (writes (held xs (get_or parts i none) ∷ []))) (numbered n (writes (map (held xs) (drop (i + 1) parts)))) _
-          c.loop-part.invariant.0 c.write-part.ensures.outcome (writes_more xs n parts i none c.loop-part-test.true) c.loop-part.invariant.1
-          _ c.in-ok-write-part.was,
+          c.loop-part.invariant.0 c.write_part.ensures.outcome (writes_more xs n parts i none c.loop-part-test.true) c.loop-part.invariant.1
+          _ c.in_ok-write_part.was,
     )
 
 pub returns : goal.returns

@@ -11,12 +11,12 @@ use Rattle.join.proofs.Nothing.{nothing_parts, over_no_runs, source_few}
 use Rattle.join.proofs.Readings.{difference_same}
 use Rattle.join.proofs.canonical.write_over_nothing.Goals as goal
 
-pub join-sources-requires : goal.join-sources-requires
+pub join_sources-requires : goal.join_sources-requires
 unfolding source_cells
-join-sources-requires c =
+join_sources-requires c =
     let n = c.args.source.size in
     record {
-      earlier-sourced = record {
+      earlier_sourced = record {
         rising = omega arith;
         inside = tt;
         few = omega arith;
@@ -26,7 +26,7 @@ join-sources-requires c =
         from_short = c.requires.from_short;
         to_short = c.requires.from_short;
       };
-      later-sourced = c.requires;
+      later_sourced = c.requires;
     }
 
 pub returns : goal.returns
@@ -37,6 +37,6 @@ returns c =
     let is = difference_same _ d refl refl (over_no_runs _ s refl refl) in
     let ok = limited_ok d (canonical d) (source_few _ s c.requires) in
     record {
-      result = c.join-sources.ensures.result ∙ ap (λ x. then (limited x (canonical x)) (λ bytes. filling Stream xs bytes)) is ∙ ap (λ o. then o (λ bytes. filling Stream xs bytes)) ok;
-      buffer = c.join-sources.ensures.buffer ∙ ap (λ x. filled_by (limited x (canonical x)) xs) is ∙ ap (λ o. filled_by o xs) ok;
+      result = c.join_sources.ensures.result ∙ ap (λ x. then (limited x (canonical x)) (λ bytes. filling Stream xs bytes)) is ∙ ap (λ o. then o (λ bytes. filling Stream xs bytes)) ok;
+      buffer = c.join_sources.ensures.buffer ∙ ap (λ x. filled_by (limited x (canonical x)) xs) is ∙ ap (λ o. filled_by o xs) ok;
     }

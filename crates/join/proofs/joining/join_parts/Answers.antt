@@ -6,8 +6,8 @@ pub returns : goal.returns
 returns c =
     let e = c.args.earlier in
     let l = c.args.later in
-    let was = c.requires.earlier-sourced in
-    let is = c.requires.later-sourced in
+    let was = c.requires.earlier_sourced in
+    let is = c.requires.later_sourced in
     let short : length c.args.earlier.bytes.now < 2 ^ 64 = search rules in
     let brief : length c.args.later.bytes.now < 2 ^ 64 = search rules in
     let got = c.in-Some.ensures.runs in

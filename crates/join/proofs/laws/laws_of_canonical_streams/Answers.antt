@@ -6,8 +6,8 @@ use Rattle.join.proofs.laws.laws_of_canonical_streams.Goals as goal
 
 pub returns : goal.returns
 returns c = record {
-  ranges-tell = ranges_runs;
-  length-told = length_canonical;
+  ranges_tell = ranges_runs;
+  length_told = length_canonical;
   read_back = canonical_law;
   expressible = sound_expressible;
   means = canonical_means;

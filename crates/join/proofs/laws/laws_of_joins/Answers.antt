@@ -6,7 +6,7 @@ pub returns : goal.returns
 returns c = record {
   bracketing = joined_bracketing;
   streams = streams_bracketing;
-  in-turn = applied_in_turn;
+  in_turn = applied_in_turn;
   ranges = ranges_overlaid;
   means = join_means;
 }

@@ -3,17 +3,17 @@ use Rattle.overlay.specs.Runs.{ends}
 use Rattle.join.proofs.Records.{run_of, next_rising, next_length, next_under, record_most, length_end}
 use Rattle.join.proofs.lengths.stream_length.Goals as goal
 
-pub record-length-total-requires : goal.record-length-total-requires
-record-length-total-requires c =
+pub record_length-total-requires : goal.record_length-total-requires
+record_length-total-requires c =
     omega (arith, next_under c.args.records.now c.loop-run.run_index (omega arith) c.loop-run.invariant.0 c.args.size c.loop-run.invariant.1)
 
-pub overflow-add-total-in-loop-run : goal.overflow-add-total-in-loop-run
-overflow-add-total-in-loop-run c =
+pub overflow_add-total-in-loop-run : goal.overflow_add-total-in-loop-run
+overflow_add-total-in-loop-run c =
     let lt : c.loop-run.run_index < length c.args.records.now = omega arith in
     let h = next_rising c.args.records.now c.loop-run.run_index lt c.loop-run.invariant.0 c.args.size c.loop-run.invariant.1 in
     let u = next_under c.args.records.now c.loop-run.run_index lt c.loop-run.invariant.0 c.args.size c.loop-run.invariant.1 in
     let m = record_most (run_of c.args.records.now c.loop-run.run_index) h.1 in
-    omega (arith, u, m, h.0, c.loop-run.invariant.3, c.record-length-total.ensures)
+    omega (arith, u, m, h.0, c.loop-run.invariant.3, c.record_length-total.ensures)
 
 pub loop-run-preserved : goal.loop-run-preserved
 loop-run-preserved c =
@@ -24,8 +24,8 @@ loop-run-preserved c =
     let m = record_most (run_of rs i) h.1 in (
       ends (run_of rs i),
       h.2,
-      omega (arith, next_length rs i lt, c.loop-run.invariant.2, c.record-length-total.ensures),
-      omega (arith, m, h.0, c.loop-run.invariant.3, c.record-length-total.ensures),
+      omega (arith, next_length rs i lt, c.loop-run.invariant.2, c.record_length-total.ensures),
+      omega (arith, m, h.0, c.loop-run.invariant.3, c.record_length-total.ensures),
     )
 
 pub returns : goal.returns

@@ -8,24 +8,24 @@ use Rattle.stream.proofs.Back.{ok_same}
 use Rattle.join.proofs.Readings.{stream_both, meaning_ok, meaning_err, difference_same, told_stands}
 use Rattle.join.proofs.sources.gather_source.Goals as goal
 
-pub returns-in-err-summary : goal.returns-in-err-summary
-returns-in-err-summary c =
-    let y = err_from_is_err_and c.from-residual.result c.from-residual.ensures.1 in
-    let v = gathered_err _ _ _ _ _ c.in-err-summary.ensures.result in
+pub returns-in_err-summary : goal.returns-in_err-summary
+returns-in_err-summary c =
+    let y = err_from_is_err_and c.from_residual.result c.from_residual.ensures.1 in
+    let v = gathered_err _ _ _ _ _ c.in_err-summary.ensures.result in
     rw (y.1, y.2) (record { means = sym (meaning_err c.args.stream.now _ v); bytes = tt; sourced = tt })
 
 pub returns : goal.returns
 unfolding source_cells
 returns c =
     let xs = c.args.stream.now in
-    let s = c.in-ok-summary.summary in
-    let t = c.in-ok-summary.ensures.told in
+    let s = c.in_ok-summary.summary in
+    let t = c.in_ok-summary.ensures.told in
     let out = c.read.new.out in
     let cut : take s.count out ≡ take (s.count - 0) out = ap (λ k. take k out) (omega arith) in
     let st = told_stands c.args.side xs s out _ t cut in
     let own = stream_both xs c.args.side in
     record {
-      means = ap Ok (difference_same _ _ (c.name-in.ensures.bytes ∙ t.tells.from) (c.name-in-2.ensures.bytes ∙ t.tells.to) (st.means xs xs own)) ∙ sym (meaning_ok xs t.records t.was_read);
+      means = ap Ok (difference_same _ _ (c.name_in.ensures.bytes ∙ t.tells.from) (c.name_in-2.ensures.bytes ∙ t.tells.to) (st.means xs xs own)) ∙ sym (meaning_ok xs t.records t.was_read);
       bytes = refl;
       sourced = record {
         rising = st.rising;
@@ -36,7 +36,7 @@ returns c =
         says = λ cs v.
             let e = ok_same t.records cs (sym t.was_read ∙ v) in
             record { sound = subst Sound e t.sound; runs = ap (map (held xs)) (sym cut) ∙ t.tells.runs ∙ ap data_of e; size = t.tells.size ∙ ap (size_in 0) e };
-        from_short = c.name-in.ensures.short;
-        to_short = c.name-in-2.ensures.short;
+        from_short = c.name_in.ensures.short;
+        to_short = c.name_in-2.ensures.short;
       };
     }

@@ -15,8 +15,8 @@ skip-next-requires c =
     let fits : c.args.joined.size < 2 ^ 64 = search rules in
     record { rising = rising_wider 0 j.size _ j.parts.now c.requires.lie.rising (omega arith); cursor = c.loop-pos.invariant.2 }
 
-pub put-part-requires : goal.put-part-requires
-put-part-requires c =
+pub put_part-requires : goal.put_part-requires
+put_part-requires c =
     let j = c.args.joined in
     let short : length c.args.joined.earlier.now < 2 ^ 64 = search rules in
     let brief : length c.args.joined.later.now < 2 ^ 64 = search rules in
@@ -44,7 +44,7 @@ loop-pos-preserved c =
     let lc : length cells ≡ j.size = length_cells e l j.parts.now j.size in
     let a : length (payload_at cells o (pos - o)) ≡ pos - o = length_payload cells o (pos - o) (omega (arith, c.requires.alike.within)) in
     let b : length (held_bytes e l state (stop - pos)) ≡ stop - pos = sym (ap length f.is) ∙ length_payload cells pos (stop - pos) (omega (arith, c.requires.alike.within)) in
-    let w = lent_on c.args.tail.now c.loop-pos.tail c.put-part.new.tail (payload_at cells o (pos - o)) (held_bytes e l state (stop - pos)) 0 (pos - o) c.loop-pos.invariant.3 (omega arith) (omega arith) c.put-part.ensures in (
+    let w = lent_on c.args.tail.now c.loop-pos.tail c.put_part.new.tail (payload_at cells o (pos - o)) (held_bytes e l state (stop - pos)) 0 (pos - o) c.loop-pos.invariant.3 (omega arith) (omega arith) c.put_part.ensures in (
       omega arith,
       omega arith,
       cursor_on payload_moves j.parts.now c.skip-next.result pos stop (omega arith) c.skip-next.ensures.cursor,

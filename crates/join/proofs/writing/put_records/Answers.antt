@@ -23,8 +23,8 @@ loop-run-init c = (
   sym (patched_none c.args.out.now c.args.start),
 )
 
-pub put-record-first-requires : goal.put-record-first-requires
-put-record-first-requires c =
+pub put_record-first-requires : goal.put_record-first-requires
+put_record-first-requires c =
     let j = c.args.joined in
     let rs = c.args.records.now in
     let i = c.loop-run.run_index in
@@ -38,14 +38,14 @@ put-record-first-requires c =
       room = simp (length-take, length-drop) (omega (arith, next_length rs i lt, c.loop-run.invariant.4));
     }
 
-pub record-length-requires : goal.record-length-requires
-record-length-requires c =
+pub record_length-requires : goal.record_length-requires
+record_length-requires c =
     omega (arith, next_under c.args.records.now c.loop-run.run_index (omega arith) c.loop-run.invariant.0 c.args.joined.size c.loop-run.invariant.2)
 
-pub overflow-add-at : goal.overflow-add-at
-overflow-add-at c =
+pub overflow_add-at : goal.overflow_add-at
+overflow_add-at c =
     let lt : c.loop-run.run_index < length c.args.records.now = omega arith in
-    omega (arith, next_length c.args.records.now c.loop-run.run_index lt, c.loop-run.invariant.4, c.record-length.ensures)
+    omega (arith, next_length c.args.records.now c.loop-run.run_index lt, c.loop-run.invariant.4, c.record_length.ensures)
 
 pub loop-run-preserved : goal.loop-run-preserved
 loop-run-preserved c =
@@ -63,13 +63,13 @@ loop-run-preserved c =
     let l = next_length rs i lt in
     let more = length-append done one in
     let b = next_bytes rs i lt cells in
-    let w = lent_on c.args.out.now c.loop-run.out c.put-record-first.new.tail done one c.args.start c.loop-run.at c.loop-run.invariant.6 c.loop-run.invariant.5 (omega (arith, c.loop-run.invariant.4)) c.put-record-first.ensures.buffer in (
+    let w = lent_on c.args.out.now c.loop-run.out c.put_record-first.new.tail done one c.args.start c.loop-run.at c.loop-run.invariant.6 c.loop-run.invariant.5 (omega (arith, c.loop-run.invariant.4)) c.put_record-first.ensures.buffer in (
       ends (run_of rs i),
-      c.put-record-first.ensures.cursor,
+      c.put_record-first.ensures.cursor,
       h.2,
       a.1,
-      omega (arith, c.loop-run.invariant.4, c.record-length.ensures),
-      omega (arith, c.loop-run.invariant.5, c.record-length.ensures, ap length b),
+      omega (arith, c.loop-run.invariant.4, c.record_length.ensures),
+      omega (arith, c.loop-run.invariant.5, c.record_length.ensures, ap length b),
       w ∙ ap (λ q. patched c.args.out.now c.args.start q) (sym b),
     )
 

@@ -31,65 +31,65 @@ module _ (xs : List ℕ) (run : Run RangeMark) (fits : length (line run) ≤ len
   unfolding front
   regrouped = append_assoc (decimal run.offset ++ (32 ∷ [])) (decimal run.length) (line_end run.mark) ∙ append_assoc (decimal run.offset) (32 ∷ []) (decimal run.length ++ line_end run.mark)
 
-pub put-number-space-requires : goal.put-number-space-requires
-put-number-space-requires c = let l = length_line c.args.run in omega arith
+pub put_number-space-requires : goal.put_number-space-requires
+put_number-space-requires c = let l = length_line c.args.run in omega arith
 
-pub slice-bounds-put-u8-count : goal.slice-bounds-put-u8-count
-slice-bounds-put-u8-count c = let l = length_line c.args.run in omega arith
+pub slice_bounds-put_u8-count : goal.slice_bounds-put_u8-count
+slice_bounds-put_u8-count c = let l = length_line c.args.run in omega arith
 
-pub slice-bounds-put-u8-start : goal.slice-bounds-put-u8-start
-slice-bounds-put-u8-start c = let l = length_line c.args.run in omega arith
+pub slice_bounds-put_u8-start : goal.slice_bounds-put_u8-start
+slice_bounds-put_u8-start c = let l = length_line c.args.run in omega arith
 
-pub put-u8-requires : goal.put-u8-requires
-put-u8-requires c = let l = length_line c.args.run in tail_room c.put-number-space.new.tail c.put-number-space.result 1 (omega arith)
+pub put_u8-requires : goal.put_u8-requires
+put_u8-requires c = let l = length_line c.args.run in tail_room c.put_number-space.new.tail c.put_number-space.result 1 (omega arith)
 
-pub put-number-requires : goal.put-number-requires
-put-number-requires c =
+pub put_number-requires : goal.put_number-requires
+put_number-requires c =
     let xs = c.args.tail.now in
     let run = c.args.run in
-    let n = c.put-number-space in
+    let n = c.put_number-space in
     let l = length_line run in
-    let f = length_front xs run c.requires n.new.tail c.put-u8.new.tail n.result n.ensures.buffer n.ensures.taken in
-    let s = spaced xs run c.requires n.new.tail c.put-u8.new.tail n.result n.ensures.buffer n.ensures.taken c.put-u8.ensures in
-    patched_room xs _ (front xs run c.requires n.new.tail c.put-u8.new.tail n.result n.ensures.buffer n.ensures.taken) 0 (n.result + 1) (length (decimal run.length)) s (omega arith) (omega arith)
+    let f = length_front xs run c.requires n.new.tail c.put_u8.new.tail n.result n.ensures.buffer n.ensures.taken in
+    let s = spaced xs run c.requires n.new.tail c.put_u8.new.tail n.result n.ensures.buffer n.ensures.taken c.put_u8.ensures in
+    patched_room xs _ (front xs run c.requires n.new.tail c.put_u8.new.tail n.result n.ensures.buffer n.ensures.taken) 0 (n.result + 1) (length (decimal run.length)) s (omega arith) (omega arith)
 
-pub overflow-add-kind : goal.overflow-add-kind
-overflow-add-kind c = let l = length_line c.args.run in omega arith
+pub overflow_add-kind : goal.overflow_add-kind
+overflow_add-kind c = let l = length_line c.args.run in omega arith
 
-pub slice-bounds-put-kind-count : goal.slice-bounds-put-kind-count
-slice-bounds-put-kind-count c = let l = length_line c.args.run in omega arith
+pub slice_bounds-put_kind-count : goal.slice_bounds-put_kind-count
+slice_bounds-put_kind-count c = let l = length_line c.args.run in omega arith
 
-pub slice-bounds-put-kind-start : goal.slice-bounds-put-kind-start
-slice-bounds-put-kind-start c = let l = length_line c.args.run in omega arith
+pub slice_bounds-put_kind-start : goal.slice_bounds-put_kind-start
+slice_bounds-put_kind-start c = let l = length_line c.args.run in omega arith
 
-pub put-kind-requires : goal.put-kind-requires
-put-kind-requires c =
+pub put_kind-requires : goal.put_kind-requires
+put_kind-requires c =
     let xs = c.args.tail.now in
     let run = c.args.run in
-    let n = c.put-number-space in
+    let n = c.put_number-space in
     let l = length_line run in
-    let f = length_front xs run c.requires n.new.tail c.put-u8.new.tail n.result n.ensures.buffer n.ensures.taken in
-    let s = spaced xs run c.requires n.new.tail c.put-u8.new.tail n.result n.ensures.buffer n.ensures.taken c.put-u8.ensures in
-    let b = both xs run c.requires n.new.tail c.put-u8.new.tail n.result n.ensures.buffer n.ensures.taken _ _ s c.put-number.ensures.buffer in
-    let g = length-append (front xs run c.requires n.new.tail c.put-u8.new.tail n.result n.ensures.buffer n.ensures.taken) (decimal run.length) in
-    let t = c.put-number.ensures.taken in
-    patched_room xs _ (front xs run c.requires n.new.tail c.put-u8.new.tail n.result n.ensures.buffer n.ensures.taken ++ decimal run.length) 0 (n.result + 1 + c.put-number.result) 6 b (omega arith) (omega arith)
+    let f = length_front xs run c.requires n.new.tail c.put_u8.new.tail n.result n.ensures.buffer n.ensures.taken in
+    let s = spaced xs run c.requires n.new.tail c.put_u8.new.tail n.result n.ensures.buffer n.ensures.taken c.put_u8.ensures in
+    let b = both xs run c.requires n.new.tail c.put_u8.new.tail n.result n.ensures.buffer n.ensures.taken _ _ s c.put_number.ensures.buffer in
+    let g = length-append (front xs run c.requires n.new.tail c.put_u8.new.tail n.result n.ensures.buffer n.ensures.taken) (decimal run.length) in
+    let t = c.put_number.ensures.taken in
+    patched_room xs _ (front xs run c.requires n.new.tail c.put_u8.new.tail n.result n.ensures.buffer n.ensures.taken ++ decimal run.length) 0 (n.result + 1 + c.put_number.result) 6 b (omega arith) (omega arith)
 
 pub returns : goal.returns
 returns c =
     let xs = c.args.tail.now in
     let run = c.args.run in
-    let n = c.put-number-space in
+    let n = c.put_number-space in
     let l = length_line run in
     let k = length_line_end run.mark in
-    let f = length_front xs run c.requires n.new.tail c.put-u8.new.tail n.result n.ensures.buffer n.ensures.taken in
-    let s = spaced xs run c.requires n.new.tail c.put-u8.new.tail n.result n.ensures.buffer n.ensures.taken c.put-u8.ensures in
-    let b = both xs run c.requires n.new.tail c.put-u8.new.tail n.result n.ensures.buffer n.ensures.taken _ _ s c.put-number.ensures.buffer in
-    let t = c.put-number.ensures.taken in
-    let fr = front xs run c.requires n.new.tail c.put-u8.new.tail n.result n.ensures.buffer n.ensures.taken in
+    let f = length_front xs run c.requires n.new.tail c.put_u8.new.tail n.result n.ensures.buffer n.ensures.taken in
+    let s = spaced xs run c.requires n.new.tail c.put_u8.new.tail n.result n.ensures.buffer n.ensures.taken c.put_u8.ensures in
+    let b = both xs run c.requires n.new.tail c.put_u8.new.tail n.result n.ensures.buffer n.ensures.taken _ _ s c.put_number.ensures.buffer in
+    let t = c.put_number.ensures.taken in
+    let fr = front xs run c.requires n.new.tail c.put_u8.new.tail n.result n.ensures.buffer n.ensures.taken in
     let g = length-append fr (decimal run.length) in
     record {
       taken = omega arith;
-      buffer = lent_on xs _ _ (fr ++ decimal run.length) (line_end run.mark) 0 (n.result + 1 + c.put-number.result) b (omega arith) (omega arith) c.put-kind.ensures
-          ∙ ap (patched xs 0) (regrouped xs run c.requires n.new.tail c.put-u8.new.tail n.result n.ensures.buffer n.ensures.taken);
+      buffer = lent_on xs _ _ (fr ++ decimal run.length) (line_end run.mark) 0 (n.result + 1 + c.put_number.result) b (omega arith) (omega arith) c.put_kind.ensures
+          ∙ ap (patched xs 0) (regrouped xs run c.requires n.new.tail c.put_u8.new.tail n.result n.ensures.buffer n.ensures.taken);
     }

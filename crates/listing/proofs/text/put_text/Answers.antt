@@ -7,56 +7,56 @@ use Rattle.listing.proofs.Lines.{none, lines_more, lines_room, lines_all, length
 use Rattle.listing.proofs.Rooms.{patched_room}
 use Rattle.listing.proofs.text.put_text.Goals as goal
 
-pub put-bytes-requires : goal.put-bytes-requires
-put-bytes-requires c = omega (arith, length_listing c.args.ranges.now)
+pub put_bytes-requires : goal.put_bytes-requires
+put_bytes-requires c = omega (arith, length_listing c.args.ranges.now)
 
 pub loop-run-init : goal.loop-run-init
 loop-run-init c =
     let l = length_listing c.args.ranges.now in
-    let k = ap length c.put-bytes.ensures ∙ length_patched c.args.out.now heading 0 (omega arith) in
-    (refl, sym (patched_none c.put-bytes.new.tail 19), omega arith)
+    let k = ap length c.put_bytes.ensures ∙ length_patched c.args.out.now heading 0 (omega arith) in
+    (refl, sym (patched_none c.put_bytes.new.tail 19), omega arith)
 
-pub slice-bounds-put-line-count : goal.slice-bounds-put-line-count
-slice-bounds-put-line-count c =
+pub slice_bounds-put_line-count : goal.slice_bounds-put_line-count
+slice_bounds-put_line-count c =
     let v = c.loop-run.invariant in
     let rs = c.args.ranges.now in
     let i = c.loop-run.run_index in
     let r = lines_room rs i c.loop-run-test.true in
     let a = v.0 in
     let b = v.2 in
-    let k = ap length v.1 ∙ length_patched c.put-bytes.new.tail (lines (take i rs)) 19 (omega arith) in
+    let k = ap length v.1 ∙ length_patched c.put_bytes.new.tail (lines (take i rs)) 19 (omega arith) in
     omega arith
 
-pub slice-bounds-put-line-start : goal.slice-bounds-put-line-start
-slice-bounds-put-line-start c =
+pub slice_bounds-put_line-start : goal.slice_bounds-put_line-start
+slice_bounds-put_line-start c =
     let v = c.loop-run.invariant in
     let rs = c.args.ranges.now in
     let i = c.loop-run.run_index in
     let r = lines_room rs i c.loop-run-test.true in
     let a = v.0 in
     let b = v.2 in
-    let k = ap length v.1 ∙ length_patched c.put-bytes.new.tail (lines (take i rs)) 19 (omega arith) in
+    let k = ap length v.1 ∙ length_patched c.put_bytes.new.tail (lines (take i rs)) 19 (omega arith) in
     omega arith
 
-pub put-line-at-requires : goal.put-line-at-requires
-put-line-at-requires c =
+pub put_line-at-requires : goal.put_line-at-requires
+put_line-at-requires c =
     let v = c.loop-run.invariant in
     let rs = c.args.ranges.now in
     let i = c.loop-run.run_index in
     let r = lines_room rs i c.loop-run-test.true in
     let a = v.0 in
     let b = v.2 in
-    patched_room c.put-bytes.new.tail c.loop-run.out (lines (take i rs)) 19 c.loop-run.at (length (line (get_or rs i none))) v.1 (omega arith) (omega arith)
+    patched_room c.put_bytes.new.tail c.loop-run.out (lines (take i rs)) 19 c.loop-run.at (length (line (get_or rs i none))) v.1 (omega arith) (omega arith)
 
-pub overflow-add-at : goal.overflow-add-at
-overflow-add-at c =
+pub overflow_add-at : goal.overflow_add-at
+overflow_add-at c =
     let v = c.loop-run.invariant in
     let rs = c.args.ranges.now in
     let i = c.loop-run.run_index in
     let r = lines_room rs i c.loop-run-test.true in
     let a = v.0 in
     let b = v.2 in
-    let k = ap length v.1 ∙ length_patched c.put-bytes.new.tail (lines (take i rs)) 19 (omega arith) in
+    let k = ap length v.1 ∙ length_patched c.put_bytes.new.tail (lines (take i rs)) 19 (omega arith) in
     omega arith
 
 pub loop-run-preserved : goal.loop-run-preserved
@@ -69,10 +69,10 @@ loop-run-preserved c =
     let k = ap length m ∙ length-append (lines (take i rs)) (line (get_or rs i none)) in
     let a = v.0 in
     let b = v.2 in
-    let t = c.put-line-at.ensures.taken in (
+    let t = c.put_line-at.ensures.taken in (
       omega arith,
-      lent_on c.put-bytes.new.tail c.loop-run.out _ (lines (take i rs)) (line (get_or rs i none)) 19 c.loop-run.at v.1 a (omega arith) c.put-line-at.ensures.buffer
-          ∙ ap (patched c.put-bytes.new.tail 19) (sym m),
+      lent_on c.put_bytes.new.tail c.loop-run.out _ (lines (take i rs)) (line (get_or rs i none)) 19 c.loop-run.at v.1 a (omega arith) c.put_line-at.ensures.buffer
+          ∙ ap (patched c.put_bytes.new.tail 19) (sym m),
       b,
     )
 
@@ -81,7 +81,7 @@ returns c =
     let v = c.loop-run.invariant in
     let rs = c.args.ranges.now in
     let l = length_listing rs in
-    v.1 ∙ ap (patched c.put-bytes.new.tail 19) (lines_all rs c.loop-run.run_index c.loop-run-test.false)
-    ∙ ap (λ t. patched t 19 (lines rs)) c.put-bytes.ensures
+    v.1 ∙ ap (patched c.put_bytes.new.tail 19) (lines_all rs c.loop-run.run_index c.loop-run-test.false)
+    ∙ ap (λ t. patched t 19 (lines rs)) c.put_bytes.ensures
     ∙ patched_on c.args.out.now heading (lines rs) 0 (omega arith)
     ∙ ap (patched c.args.out.now 0) (listing_is rs)

@@ -10,8 +10,8 @@ loop-run-preserved c =
     let i = c.loop-run.run_index in
     let e = ap length (lines_more rs i c.loop-run-test.true) ∙ length-append (lines (take i rs)) (line (get_or rs i none)) in
     let v = c.loop-run.invariant in
-    let x = c.line-length-total.ensures.exact in
-    let s = c.line-length-total.ensures.short in
+    let x = c.line_length-total.ensures.exact in
+    let s = c.line_length-total.ensures.short in
     (omega arith, omega arith)
 
 pub returns : goal.returns

@@ -16,8 +16,8 @@ returns-then-pos-run g c =
       nears = edges_offset c.args.runs.now c.args.pos c.args.size g.M.Mark.moves c.args.i c.index-runs-i.result lt c.index-runs-i.is c.if-pos-run.true;
     }
 
-pub overflow-add-result : goal.overflow-add-result
-overflow-add-result g c =
+pub overflow_add-result : goal.overflow_add-result
+overflow_add-result g c =
     let lt : c.args.i < length c.args.runs.now = omega (arith, c.requires.cursor.within, c.if-i-runs.false) in
     let under = ends_under g.M.Mark.moves c.args.runs.now c.args.i c.args.pos c.index-runs-i.result lt c.index-runs-i.is _ c.requires.rising in
     search rules

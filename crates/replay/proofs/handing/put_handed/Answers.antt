@@ -14,7 +14,7 @@ returns c =
     let beyond = beyond_is c.args.handed c.min-end.result bytes c.min-end.ensures in
     let p = c.put.ensures in
     record {
-      answer = c.tell-nothing.ensures ∙ ap untold (p.answer ∙ ap (λ h. put_answer t h stream) is);
+      answer = c.tell_nothing.ensures ∙ ap untold (p.answer ∙ ap (λ h. put_answer t h stream) is);
       table = p.table ∙ ap (λ h. put_table t h stream) is;
       bytes = ap₂ ◌++◌ (p.bytes ∙ ap (λ h. put_bytes t h stream) is) beyond;
     }

@@ -16,7 +16,7 @@ returns g c =
     let p = c.settle.ensures in
     record {
       same = p.same;
-      answer = c.tell-nothing.ensures ∙ ap untold (p.answer ∙ ap (λ h. settle_answer holds t h image) is);
+      answer = c.tell_nothing.ensures ∙ ap untold (p.answer ∙ ap (λ h. settle_answer holds t h image) is);
       image = p.image ∙ ap (λ h. settle_image holds t h image) is;
       table = p.table ∙ ap (λ h. settle_table holds t h image) is;
       bytes = ap₂ ◌++◌ (p.bytes ∙ ap (λ h. settle_bytes holds t h image) is) beyond;

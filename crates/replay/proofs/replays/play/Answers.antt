@@ -12,11 +12,11 @@ loop-i-preserved g c =
     let m = g.S.Store in
     let i = c.loop-i.i in
     let n = length c.args.answers.now in
-    let made = c.make-call.ensures in
+    let made = c.make_call.ensures in
     let here : i < n = omega arith in (
       made.same ∙ c.loop-i.invariant.0,
       one_more _ _ _ _ i (scene c.loop-i.shelf c.loop-i.bytes (m.image c.loop-i.base) c.loop-i.buffer) c.loop-i.answers c.loop-i.invariant.1
-          (m.holds c.loop-i.base) c.loop-i.invariant.0 _ _ c.make-call.result _ (omega (arith, length-take n c.args.requests.now)) (omega (arith, c.loop-i.auto.answers)) (sym (get_or-take n c.args.requests.now i _ here)) made.answer made.left,
+          (m.holds c.loop-i.base) c.loop-i.invariant.0 _ _ c.make_call.result _ (omega (arith, length-take n c.args.requests.now)) (omega (arith, c.loop-i.auto.answers)) (sym (get_or-take n c.args.requests.now i _ here)) made.answer made.left,
     )
 
 pub returns : goal.returns

@@ -4,12 +4,12 @@ use Rattle.replay.proofs.Promised.{promise}
 use Rattle.replay.proofs.Replaying.{replays}
 use Rattle.replay.proofs.replays.play_from_empty.Goals as goal
 
-pub returns-in-err-shelf : goal.returns-in-err-shelf
-returns-in-err-shelf g c =
-    let y = err_from_is_err_and c.from-residual.result c.from-residual.ensures.1 in
+pub returns-in_err-shelf : goal.returns-in_err-shelf
+returns-in_err-shelf g c =
+    let y = err_from_is_err_and c.from_residual.result c.from_residual.ensures.1 in
     rw (y.1, y.2) (record {
       same = refl;
-      replayed = record { bad = sym c.in-err-shelf.ensures; bytes-stay = refl; image-stays = refl; buffer-stays = refl; answers_stay = refl };
+      replayed = record { bad = sym c.in_err-shelf.ensures; bytes-stay = refl; image-stays = refl; buffer-stays = refl; answers_stay = refl };
       always = promise;
     })
 
@@ -19,7 +19,7 @@ returns g c =
     let base = c.args.base.now in
     record {
       same = c.play.ensures.same;
-      replayed = replays (m.holds base) c.args.name.now c.args.bytes.now (m.image base) c.args.buffer.now c.args.requests.now c.in-ok-shelf.shelf _ c.args.answers.now c.play.new.answers
-          c.in-ok-shelf.ensures c.play.ensures.played;
+      replayed = replays (m.holds base) c.args.name.now c.args.bytes.now (m.image base) c.args.buffer.now c.args.requests.now c.in_ok-shelf.shelf _ c.args.answers.now c.play.new.answers
+          c.in_ok-shelf.ensures c.play.ensures.played;
       always = promise;
     }

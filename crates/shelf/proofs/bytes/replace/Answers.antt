@@ -19,5 +19,5 @@ copied fill start end bytes new xs ys a b c p q =
 
 pub returns : goal.returns
 returns c =
-    copied c.args.fill c.args.start c.args.end c.args.bytes.now c.args.new.now c.copy-within.new.self c.copy-from-slice.new.self
-    c.requires.ordered.1 c.requires.reaches c.requires.room c.copy-within.ensures.after c.copy-from-slice.ensures.after
+    copied c.args.fill c.args.start c.args.end c.args.bytes.now c.args.new.now c.copy_within.new.self c.copy_from_slice.new.self
+    c.requires.ordered.1 c.requires.reaches c.requires.room c.copy_within.ensures.after c.copy_from_slice.ensures.after

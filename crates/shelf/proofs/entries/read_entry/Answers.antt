@@ -9,8 +9,8 @@ pub returns-in-Ok : goal.returns-in-Ok
 returns-in-Ok c =
     let e = c.in-Ok.ensures in
     record {
-      means = entry_from (table_of c.args.table.now) c.args.bytes.now c.args.i (row_of c.entry-row.result) c.stream-of.result.now
-          (Ok (source_difference c.in-Ok.source)) c.entry-row.ensures.row c.stream-of.ensures e.means;
+      means = entry_from (table_of c.args.table.now) c.args.bytes.now c.args.i (row_of c.entry-row.result) c.stream_of.result.now
+          (Ok (source_difference c.in-Ok.source)) c.entry-row.ensures.row c.stream_of.ensures e.means;
       sourced = e.sourced;
       own = e.own;
     }
@@ -19,9 +19,9 @@ pub returns-in-Err : goal.returns-in-Err
 returns-in-Err c =
     let e = c.in-Err.ensures in
     record {
-      means = ap Err c.in-entry.ensures
-          ∙ entry_from (table_of c.args.table.now) c.args.bytes.now c.args.i (row_of c.entry-row.result) c.stream-of.result.now
-          (Err c.in-Err.fault) c.entry-row.ensures.row c.stream-of.ensures e.means;
+      means = ap Err c.in_entry.ensures
+          ∙ entry_from (table_of c.args.table.now) c.args.bytes.now c.args.i (row_of c.entry-row.result) c.stream_of.result.now
+          (Err c.in-Err.fault) c.entry-row.ensures.row c.stream_of.ensures e.means;
       sourced = tt;
       own = tt;
     }

@@ -14,7 +14,7 @@ returns-then-count-i c =
     let bytes = c.args.bytes.now in
     let e = text_none t bytes c.args.i (omega arith) in
     record {
-      answer = ap Err (c.in-entry.ensures ∙ ap (in_entry c.args.i) c.new.ensures) ∙ answer_err t bytes c.args.i c.args.text.now _ e;
+      answer = ap Err (c.in_entry.ensures ∙ ap (in_entry c.args.i) c.new.ensures) ∙ answer_err t bytes c.args.i c.args.text.now _ e;
       buffer = buffer_err t bytes c.args.i c.args.text.now _ e;
     }
 
@@ -24,25 +24,25 @@ returns-then-bytes-fill c =
     let bytes = c.args.bytes.now in
     let e = text_short t bytes c.args.i (omega arith) (omega arith) in
     record {
-      answer = ap Err (c.in-entry-then-bytes-fill.ensures ∙ ap (in_entry c.args.i) c.new-then-bytes-fill.ensures) ∙ answer_err t bytes c.args.i c.args.text.now _ e;
+      answer = ap Err (c.in_entry-then-bytes-fill.ensures ∙ ap (in_entry c.args.i) c.new-then-bytes-fill.ensures) ∙ answer_err t bytes c.args.i c.args.text.now _ e;
       buffer = buffer_err t bytes c.args.i c.args.text.now _ e;
     }
 
-pub returns-in-err-source : goal.returns-in-err-source
-returns-in-err-source c =
+pub returns-in_err-source : goal.returns-in_err-source
+returns-in_err-source c =
     let t = table_of c.args.table.now in
     let bytes = c.args.bytes.now in
-    let y = err_from_is_err_and c.from-residual.result c.from-residual.ensures.1 in
-    let e = text_read t bytes c.args.i (omega arith) (omega arith) _ c.in-err-source.ensures.means in
+    let y = err_from_is_err_and c.from_residual.result c.from_residual.ensures.1 in
+    let e = text_read t bytes c.args.i (omega arith) (omega arith) _ c.in_err-source.ensures.means in
     rw (y.1, y.2) (record { answer = answer_err t bytes c.args.i c.args.text.now _ e; buffer = buffer_err t bytes c.args.i c.args.text.now _ e })
 
 pub returns-in-Ok : goal.returns-in-Ok
 returns-in-Ok c =
     let t = table_of c.args.table.now in
     let bytes = c.args.bytes.now in
-    let s = c.in-ok-source.source in
+    let s = c.in_ok-source.source in
     let w = listing (ranges (source_cells s)) in
-    let e = text_read t bytes c.args.i (omega arith) (omega arith) (Ok (source_difference s)) c.in-ok-source.ensures.means in
+    let e = text_read t bytes c.args.i (omega arith) (omega arith) (Ok (source_difference s)) c.in_ok-source.ensures.means in
     record {
       answer = ap (fault_by (in_entry c.args.i)) c.in-Ok.ensures.result ∙ answer_ok t bytes c.args.i c.args.text.now w e;
       buffer = c.in-Ok.ensures.buffer ∙ buffer_ok t bytes c.args.i c.args.text.now w e;
@@ -52,10 +52,10 @@ pub returns-in-Err : goal.returns-in-Err
 returns-in-Err c =
     let t = table_of c.args.table.now in
     let bytes = c.args.bytes.now in
-    let s = c.in-ok-source.source in
+    let s = c.in_ok-source.source in
     let w = listing (ranges (source_cells s)) in
-    let e = text_read t bytes c.args.i (omega arith) (omega arith) (Ok (source_difference s)) c.in-ok-source.ensures.means in
+    let e = text_read t bytes c.args.i (omega arith) (omega arith) (Ok (source_difference s)) c.in_ok-source.ensures.means in
     record {
-      answer = ap Err c.in-entry-in-Err.ensures ∙ ap (fault_by (in_entry c.args.i)) c.in-Err.ensures.result ∙ answer_ok t bytes c.args.i c.args.text.now w e;
+      answer = ap Err c.in_entry-in-Err.ensures ∙ ap (fault_by (in_entry c.args.i)) c.in-Err.ensures.result ∙ answer_ok t bytes c.args.i c.args.text.now w e;
       buffer = c.in-Err.ensures.buffer ∙ buffer_ok t bytes c.args.i c.args.text.now w e;
     }

@@ -16,7 +16,7 @@ returns-in-Ok c =
 pub returns-in-Err : goal.returns-in-Err
 returns-in-Err c =
     record {
-      means = ap Err (c.in-entry.ensures ∙ ap (λ i. in_entry i c.in-Err.fault) c.count.ensures)
+      means = ap Err (c.in_entry.ensures ∙ ap (λ i. in_entry i c.in-Err.fault) c.count.ensures)
           ∙ planned (table_of c.args.table.now) c.args.bytes.now c.args.stream.now (Err c.in-Err.fault) c.in-Err.ensures.means;
       sourced = tt;
       room = tt;

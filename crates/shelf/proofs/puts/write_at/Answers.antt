@@ -5,5 +5,5 @@ use Rattle.shelf.proofs.puts.write_at.Goals as goal
 
 pub returns : goal.returns
 returns c =
-    let bytes = added c.args.bytes.now c.write-source.new.out (canonical (source_difference c.args.source)) c.args.fill c.requires.room c.in-Ok.ensures.buffer in
+    let bytes = added c.args.bytes.now c.write_source.new.out (canonical (source_difference c.args.source)) c.args.fill c.requires.room c.in-Ok.ensures.buffer in
     record { told = told_if _ _ _ c.in-Ok.ensures.result; bytes = bytes }

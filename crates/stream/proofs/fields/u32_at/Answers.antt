@@ -10,5 +10,5 @@ returns c =
     let e1 = le_next xs a 1 2 (omega arith) in
     let e2 = le_next xs a 2 1 (omega arith) in
     let e3 = le_next xs a 3 0 (omega arith) in
-    let f = c.from-le-bytes.ensures in
+    let f = c.from_le_bytes.ensures in
     omega arith

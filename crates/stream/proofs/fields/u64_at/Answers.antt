@@ -14,5 +14,5 @@ returns c =
     let e5 = le_next xs a 5 2 (omega arith) in
     let e6 = le_next xs a 6 1 (omega arith) in
     let e7 = le_next xs a 7 0 (omega arith) in
-    let f = c.from-le-bytes.ensures in
+    let f = c.from_le_bytes.ensures in
     omega arith

@@ -8,8 +8,8 @@ use Rattle.stream.proofs.ranges.overlay_nothing.Goals as goal
 pub overlay-requires : goal.overlay-requires
 overlay-requires c =
     let parts = c.args.parts.now in
-    let e : take (length parts - 0) c.put-kinds.new.out ≡ map (remarked range_of) parts =
-    ap (λ k. take k c.put-kinds.new.out) (omega arith) ∙ c.put-kinds.ensures.kinds in
+    let e : take (length parts - 0) c.put_kinds.new.out ≡ map (remarked range_of) parts =
+    ap (λ k. take k c.put_kinds.new.out) (omega arith) ∙ c.put_kinds.ensures.kinds in
     record {
       earlier-rising = omega arith;
       later-rising = rw e (rising_remarked range_of 0 c.args.size parts c.requires.rising);
@@ -18,7 +18,7 @@ overlay-requires c =
 pub returns : goal.returns
 returns c =
     let parts = c.args.parts.now in
-    let e : take (length parts - 0) c.put-kinds.new.out ≡ map (remarked range_of) parts =
-    ap (λ k. take k c.put-kinds.new.out) (omega arith) ∙ c.put-kinds.ensures.kinds in
+    let e : take (length parts - 0) c.put_kinds.new.out ≡ map (remarked range_of) parts =
+    ap (λ k. take k c.put_kinds.new.out) (omega arith) ∙ c.put_kinds.ensures.kinds in
     let f = found parts c.args.size _ c.in-Some.count c.overlay.new.out e c.in-Some.ensures.equal in
     record { within = omega (arith, f.0); ranges = f.1; behind = c.in-Some.ensures.behind.1 }

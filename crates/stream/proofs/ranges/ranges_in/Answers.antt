@@ -7,18 +7,18 @@ use Rattle.stream.specs.Told.{stream_ranges}
 use Rattle.stream.proofs.Ranged.{gathered_err, part_ranges_are}
 use Rattle.stream.proofs.ranges.ranges_in.Goals as goal
 
-pub returns-in-err-summary : goal.returns-in-err-summary
+pub returns-in_err-summary : goal.returns-in_err-summary
 unfolding stream_ranges
-returns-in-err-summary c =
-    let y = err_from_is_err_and c.from-residual.result c.from-residual.ensures.1 in
-    let v = gathered_err _ _ _ _ _ c.in-err-summary.ensures.result in
+returns-in_err-summary c =
+    let y = err_from_is_err_and c.from_residual.result c.from_residual.ensures.1 in
+    let v = gathered_err _ _ _ _ _ c.in_err-summary.ensures.result in
     rw (y.1, y.2) (record { within = tt; read = sym (ap (λ o. then o (λ cs. Ok (ranges (cells cs)))) v) })
 
 pub returns : goal.returns
 unfolding stream_ranges
 returns c =
-    let t = c.in-ok-summary.ensures.told in
-    let s = c.in-ok-summary.summary in
+    let t = c.in_ok-summary.ensures.told in
+    let s = c.in_ok-summary.summary in
     let xs = c.args.stream.now in
     let parts = take s.count c.read.new.out in
     let e : part_ranges (take (s.count - 0) c.read.new.out) s.size ≡ ranges (cells t.records) =
@@ -26,6 +26,6 @@ returns c =
     ∙ sym (part_ranges_are [] xs parts s.size)
     ∙ ap ranges (t.stands.means [] xs refl) in
     record {
-      within = c.overlay-nothing.ensures.within;
-      read = ap Ok (c.overlay-nothing.ensures.ranges ∙ e) ∙ sym (ap (λ o. then o (λ cs. Ok (ranges (cells cs)))) t.was_read);
+      within = c.overlay_nothing.ensures.within;
+      read = ap Ok (c.overlay_nothing.ensures.ranges ∙ e) ∙ sym (ap (λ o. then o (λ cs. Ok (ranges (cells cs)))) t.was_read);
     }

@@ -11,15 +11,15 @@ use Rattle.stream.proofs.reading.gather.Goals as goal
 pub records-init : goal.records-init
 records-init c = (refl, sym c.requires.1, omega arith, (length c.args.reader.now.bytes.now, omega arith, refl))
 
-pub returns-in-err-record : goal.returns-in-err-record
-returns-in-err-record c =
+pub returns-in_err-record : goal.returns-in_err-record
+returns-in_err-record c =
     let n = length c.args.reader.now.bytes.now in
     let p = pos_of c.records.reader in
     let rest = rest_of c.records.reader in
     let b = ap length (ap (λ x. x.now) c.records.invariant.0) in
     let k = c.records.invariant.3.0 in
-    let y = err_from_is_err_and c.from-residual.result c.from-residual.ensures.1 in
-    let s = refused (reads k n) n _ p.place rest (step_of p rest) _ _ b c.step.ensures.result c.in-err-record.was in
+    let y = err_from_is_err_and c.from_residual.result c.from_residual.ensures.1 in
+    let s = refused (reads k n) n _ p.place rest (step_of p rest) _ _ b c.step.ensures.result c.in_err-record.was in
     let g = sym (ap (gathered_from c.args.side (gathered_of c.records.summary c.records.out) p.place) s) ∙ c.records.invariant.3.2 in
     rw (y.1, y.2) (record { few = tt; gathers = g })
 
@@ -30,18 +30,18 @@ records-preserved c =
     let p = pos_of c.records.reader in
     let q = pos_of c.step.new.self in
     let rest = rest_of c.records.reader in
-    let r = c.in-ok-record.record in
+    let r = c.in_ok-record.record in
     let b = ap (λ x. x.now) c.records.invariant.0 in
     let e = c.step.ensures.bytes ∙ c.records.invariant.0 in
     let k = c.records.invariant.3.0 in
     let h = c.records.invariant.3.1 in
-    let o = c.in-ok-record.ensures.onward in
+    let o = c.in_ok-record.ensures.onward in
     let l = ap length b in
     let d = length-drop p.place c.records.reader.bytes.now in
     let P : ℕ → Type 0 = λ t. Lies p t r q in
-    let lie = subst P (sym d) c.in-ok-record.ensures.lies in
-    let ne = c.in-default.not-End in
-    let s = stepped _ (step_of p rest) p q _ _ c.step.ensures.result c.step.ensures.stands c.in-ok-record.was in
+    let lie = subst P (sym d) c.in_ok-record.ensures.lies in
+    let ne = c.in_default.not-End in
+    let s = stepped _ (step_of p rest) p q _ _ c.step.ensures.result c.step.ensures.stands c.in_ok-record.was in
     let k' : k ≡ suc (k - 1) = omega arith in
     let room = has_room p q (length rest) (length c.records.out) r c.records.summary lie c.records.invariant.1 (omega arith) in
     let g = gathers_on c.args.side k n xs rest (step_of p rest) r p q c.records.summary c.records.out s ne (ap (drop p.place) b) (omega arith) lie room in
@@ -61,7 +61,7 @@ returns-then-reader c =
     let rest = rest_of c.records.reader in
     let k = c.records.invariant.3.0 in
     let l = ap length (ap (λ x. x.now) (c.step.ensures.bytes ∙ c.records.invariant.0)) in
-    let s = stepped _ (step_of p rest) p q _ _ c.step.ensures.result c.step.ensures.stands c.in-ok-record.was in
+    let s = stepped _ (step_of p rest) p q _ _ c.step.ensures.result c.step.ensures.stands c.in_ok-record.was in
     let t = s ∙ ap (λ r. Ok (r, q)) c.in-End.is in
     let g = ap (gathered_from c.args.side (gathered_of c.records.summary c.records.out) p.place) (ends_early (reads k n) n p.place rest (step_of p rest) q t (omega arith)) in
     rw c.new.ensures (record { few = tt; gathers = sym g ∙ c.records.invariant.3.2 })
@@ -74,7 +74,7 @@ returns c =
     let rest = rest_of c.records.reader in
     let k = c.records.invariant.3.0 in
     let l = ap length (ap (λ x. x.now) (c.step.ensures.bytes ∙ c.records.invariant.0)) in
-    let s = stepped _ (step_of p rest) p q _ _ c.step.ensures.result c.step.ensures.stands c.in-ok-record.was in
+    let s = stepped _ (step_of p rest) p q _ _ c.step.ensures.result c.step.ensures.stands c.in_ok-record.was in
     let t = s ∙ ap (λ r. Ok (r, q)) c.in-End.is in
     let g = ap (gathered_from c.args.side (gathered_of c.records.summary c.records.out) p.place) (ends (reads k n) n p.place rest (step_of p rest) q t (omega arith)) in
     let a = c.records.invariant.1 in

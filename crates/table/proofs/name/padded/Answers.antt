@@ -4,5 +4,5 @@ use Rattle.table.proofs.name.padded.Goals as goal
 
 pub returns : goal.returns
 returns c =
-    let e = c.copy-from-slice.ensures.after in
-    take_at c.copy-from-slice.new.self _ (length c.args.bytes.now) (ap length e) ∙ e
+    let e = c.copy_from_slice.ensures.after in
+    take_at c.copy_from_slice.new.self _ (length c.args.bytes.now) (ap length e) ∙ e

@@ -15,12 +15,12 @@ returns c =
     let t = name_record 116 to in
     let s : List ℕ = 115 ∷ [] in
     let v = le_bytes 8 c.args.size in
-    let n = c.put-from-at.result in
-    let taken = c.put-from-at.ensures.taken in
+    let n = c.put_from-at.result in
+    let taken = c.put_from-at.ensures.taken in
     let l1 = length-append f t in
     let l2 = length-append (f ++ t) s in
-    let a = lent_on xs _ _ header f 0 12 c.put-bytes.ensures refl (omega arith) c.put-from-at.ensures.buffer in
-    let b = lent_on xs _ _ (header ++ f) t 0 (12 + n) a (omega arith) (omega arith) c.put-name.ensures in
-    let d = lent_on xs _ _ ((header ++ f) ++ t) s 0 (12 + n + 5 + length to) b (omega arith) (omega arith) c.put-u8.ensures in
-    lent_on xs _ _ (((header ++ f) ++ t) ++ s) v 0 (12 + n + 5 + length to + 1) d (omega arith) (omega arith) c.put-u64.ensures
+    let a = lent_on xs _ _ header f 0 12 c.put_bytes.ensures refl (omega arith) c.put_from-at.ensures.buffer in
+    let b = lent_on xs _ _ (header ++ f) t 0 (12 + n) a (omega arith) (omega arith) c.put_name.ensures in
+    let d = lent_on xs _ _ ((header ++ f) ++ t) s 0 (12 + n + 5 + length to) b (omega arith) (omega arith) c.put_u8.ensures in
+    lent_on xs _ _ (((header ++ f) ++ t) ++ s) v 0 (12 + n + 5 + length to + 1) d (omega arith) (omega arith) c.put_u64.ensures
     ∙ ap (patched xs 0) (sym (opening_is c.args.from.now to c.args.size))

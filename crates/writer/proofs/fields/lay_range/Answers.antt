@@ -9,5 +9,5 @@ returns c =
     let t = c.args.tag ∷ [] in
     let o = le_bytes 8 c.args.offset in
     let n = le_bytes 8 c.args.count in
-    let b = lent_on xs _ _ t o 0 1 c.put-u8.ensures refl (omega arith) c.put-u64.ensures in
-    lent_on xs _ _ (t ++ o) n 0 9 b refl (omega arith) c.put-u64-2.ensures
+    let b = lent_on xs _ _ t o 0 1 c.put_u8.ensures refl (omega arith) c.put_u64.ensures in
+    lent_on xs _ _ (t ++ o) n 0 9 b refl (omega arith) c.put_u64-2.ensures

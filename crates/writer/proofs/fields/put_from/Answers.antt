@@ -17,5 +17,5 @@ returns c =
     let e = from_some c.args.from.now (omega arith) in
     record {
       taken = omega (arith, ap length e);
-      buffer = c.put-name.ensures ∙ sym (ap (patched c.args.tail.now 0) e);
+      buffer = c.put_name.ensures ∙ sym (ap (patched c.args.tail.now 0) e);
     }

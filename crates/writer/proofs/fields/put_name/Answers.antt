@@ -8,5 +8,5 @@ returns c =
     let xs = c.args.tail.now in
     let t = c.args.tag ∷ [] in
     let n = le_bytes 4 (length c.args.name.now) in
-    let b = lent_on xs _ _ t n 0 1 c.put-u8.ensures refl (omega arith) c.put-u32.ensures in
-    lent_on xs _ _ (t ++ n) c.args.name.now 0 5 b refl (omega arith) c.put-bytes.ensures
+    let b = lent_on xs _ _ t n 0 1 c.put_u8.ensures refl (omega arith) c.put_u32.ensures in
+    lent_on xs _ _ (t ++ n) c.args.name.now 0 5 b refl (omega arith) c.put_bytes.ensures

@@ -9,5 +9,5 @@ returns c =
     let at = c.args.at in
     let bs = c.args.bytes.now in
     let head = range_head 119 c.args.offset (length bs) in
-    let a = lent xs _ head at (omega arith) c.put-range.ensures in
-    lent_on xs _ _ head bs at (at + 17) a refl (omega arith) c.put-bytes.ensures
+    let a = lent xs _ head at (omega arith) c.put_range.ensures in
+    lent_on xs _ _ head bs at (at + 17) a refl (omega arith) c.put_bytes.ensures

@@ -10,8 +10,8 @@ left c =
     let i = c.loop-rest.invariant in
     place_left c.args.n c.loop-rest.rest c.loop-rest.first c.loop-rest.digits (omega arith) i.2 c.loop-rest-test.true i.0 i.3
 
-pub overflow-sub-first : goal.overflow-sub-first
-overflow-sub-first c = left c
+pub overflow_sub-first : goal.overflow_sub-first
+overflow_sub-first c = left c
 
 pub loop-rest-preserved : goal.loop-rest-preserved
 loop-rest-preserved c =

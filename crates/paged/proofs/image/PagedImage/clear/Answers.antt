@@ -11,14 +11,14 @@ use Rattle.paged.proofs.Ranges.{zeros_fill_less}
 use Rattle.paged.proofs.Whole.{fits_of, whole_of, sound_of, valid_of, ghosts, by_count, ended_over, filled_over}
 use Rattle.paged.proofs.image.PagedImage.clear.Goals as goal
 
-pub zero-range-requires : goal.zero-range-requires
-zero-range-requires c = let s = c.args.self.now in record { inside = omega (arith, c.requires, fits_of s); sound = sound_of s }
+pub zero_range-requires : goal.zero_range-requires
+zero_range-requires c = let s = c.args.self.now in record { inside = omega (arith, c.requires, fits_of s); sound = sound_of s }
 
-pub invariant-of-self : goal.invariant-of-self
-invariant-of-self c =
+pub invariant_of-self : goal.invariant_of-self
+invariant_of-self c =
     let s = c.args.self.now in
-    let t = c.zero-range.new.self in
-    let told = c.zero-range.ensures in
+    let t = c.zero_range.new.self in
+    let told = c.zero_range.ensures in
     let width = ap (λ n. min n 65536) told.kept.map_length in
     let zeros : List ℕ = replicate c.args.count 0 in
     let lz : length zeros ≡ c.args.count = length-replicate {A = ℕ} c.args.count 0 in
@@ -29,8 +29,8 @@ invariant-of-self c =
 pub returns : goal.returns
 returns c =
     let s = c.args.self.now in
-    let t = c.zero-range.new.self in
-    let told = c.zero-range.ensures in
+    let t = c.zero_range.new.self in
+    let told = c.zero_range.ensures in
     let table : List ℕ = s.pages.map.now in
     let pool : List ℕ = s.pages.pool.now in
     let offset : ℕ = c.args.offset in

@@ -4,10 +4,10 @@ use Rattle.paged.specs.Pages.{all_pages}
 use Rattle.paged.proofs.Whole.{fits_of, whole_of}
 use Rattle.paged.proofs.image.PagedImage.get.Goals as goal
 
-pub read-range-requires : goal.read-range-requires
-read-range-requires c = let s = c.args.self.now in record { inside = omega (arith, c.requires, fits_of s); mapped = s.mapped }
+pub read_range-requires : goal.read_range-requires
+read_range-requires c = let s = c.args.self.now in record { inside = omega (arith, c.requires, fits_of s); mapped = s.mapped }
 
 pub returns : goal.returns
 returns c =
     let s = c.args.self.now in
-    c.read-range.ensures ∙ sym (part_take s.size (all_pages s.pages.map.now s.pages.pool.now) c.args.offset (length c.args.buf.now) c.requires (whole_of s))
+    c.read_range.ensures ∙ sym (part_take s.size (all_pages s.pages.map.now s.pages.pool.now) c.args.offset (length c.args.buf.now) c.requires (whole_of s))

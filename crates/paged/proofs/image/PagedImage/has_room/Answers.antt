@@ -6,8 +6,8 @@ use Rattle.paged.specs.Paged.{paged_image}
 use Rattle.paged.proofs.Whole.{fits_of, whole_of, sound_of, by_count, filled_over}
 use Rattle.paged.proofs.image.PagedImage.has_room.Goals as goal
 
-pub has-room-requires : goal.has-room-requires
-has-room-requires c = let s = c.args.self.now in record { inside = omega (arith, c.requires, fits_of s); sound = sound_of s }
+pub has_room-requires : goal.has_room-requires
+has_room-requires c = let s = c.args.self.now in record { inside = omega (arith, c.requires, fits_of s); sound = sound_of s }
 
 pub returns : goal.returns
 returns c =
@@ -20,4 +20,4 @@ returns c =
     let ranged : offset + length bytes ≤ length (paged_image s) = omega (arith, c.requires, s.long) in
     let short : length new ≤ 256 * places table = omega (arith, length_overwritten (paged_image s) offset bytes ranged, s.long, fits_of s) in
     let count = filled_over (all_pages table pool) s.size offset bytes c.requires (whole_of s) s.ended (places table) (fits_of s) in
-    c.has-room.ensures ∙ sym (by_count table pool new short ∙ ap (λ n. leb n (pool_pages pool)) count)
+    c.has_room.ensures ∙ sym (by_count table pool new short ∙ ap (λ n. leb n (pool_pages pool)) count)

@@ -8,8 +8,8 @@ use Rattle.paged.specs.Paged.{paged_image}
 use Rattle.paged.proofs.Whole.{fits_of, whole_of, sound_of, valid_of, ghosts, by_count, ended_over, filled_over}
 use Rattle.paged.proofs.image.PagedImage.put.Goals as goal
 
-pub write-range-requires : goal.write-range-requires
-write-range-requires c =
+pub write_range-requires : goal.write_range-requires
+write_range-requires c =
     let s = c.args.self.now in
     let table : List ℕ = s.pages.map.now in
     let pool : List ℕ = s.pages.pool.now in
@@ -22,11 +22,11 @@ write-range-requires c =
     let few : filled_pages new ≤ pool_pages pool = leb-true (filled_pages new) (pool_pages pool) (sym (by_count table pool new short) ∙ c.requires.room) in
     record { inside = omega (arith, c.requires.inside, fits_of s); sound = sound_of s; room = omega arith }
 
-pub invariant-of-self : goal.invariant-of-self
-invariant-of-self c =
+pub invariant_of-self : goal.invariant_of-self
+invariant_of-self c =
     let s = c.args.self.now in
-    let t = c.write-range.new.self in
-    let told = c.write-range.ensures in
+    let t = c.write_range.new.self in
+    let told = c.write_range.ensures in
     let width = ap (λ n. min n 65536) told.kept.map_length in
     let all : List ℕ = all_pages s.pages.map.now s.pages.pool.now in
     ghosts (valid_of t.map.now t.pool.now t.spare t.used s.size told.sound (omega (arith, fits_of s))
@@ -35,8 +35,8 @@ invariant-of-self c =
 pub returns : goal.returns
 returns c =
     let s = c.args.self.now in
-    let t = c.write-range.new.self in
-    let told = c.write-range.ensures in
+    let t = c.write_range.new.self in
+    let told = c.write_range.ensures in
     let all : List ℕ = all_pages s.pages.map.now s.pages.pool.now in
     record {
       same = same_set t.map.now s.pages.map.now t.pool.now s.pages.pool.now told.kept.map_length told.kept.pool_length;

@@ -7,8 +7,8 @@ use Rattle.paged.proofs.Steps.{kept_none}
 use Rattle.paged.proofs.Whole.{sound_of, valid_of, ghosts, take_resized}
 use Rattle.paged.proofs.image.PagedImage.set_size.Goals as goal
 
-pub invariant-of-self : goal.invariant-of-self
-invariant-of-self c =
+pub invariant_of-self : goal.invariant_of-self
+invariant_of-self c =
     let s = c.args.self.now in
     let all : List _ = all_pages s.pages.map.now s.pages.pool.now in
     ghosts (valid_of s.pages.map.now s.pages.pool.now s.pages.spare s.pages.used c.args.size (sound_of s) c.requires.room

@@ -25,14 +25,14 @@ returns-then-self-i-eq0 c =
       pages = either (blank (overwritten (page_of all i) from bytes)) all (overwritten all (256 * i + from) bytes) (λ e. kept_page all i from bytes c.requires.here.1 fits was e);
     }
 
-pub returns-then-not-blank-with : goal.returns-then-not-blank-with
-returns-then-not-blank-with c =
+pub returns-then-not-blank_with : goal.returns-then-not-blank_with
+returns-then-not-blank_with c =
     let s = c.args.self.now in
     let all : List ℕ = all_pages s.map.now s.pool.now in
     record {
       sound = c.requires.sound;
       kept = kept_none s.map.now s.pool.now;
-      pages = ap (λ t. cond t (overwritten all (256 * c.args.i + c.args.from) c.args.bytes.now) all) c.if-not-blank-with.ensures;
+      pages = ap (λ t. cond t (overwritten all (256 * c.args.i + c.args.from) c.args.bytes.now) all) c.if-not-blank_with.ensures;
     }
 
 pub returns : goal.returns
@@ -47,5 +47,5 @@ returns c =
     record {
       sound = told.sound;
       kept = told.kept;
-      pages = told.pages ∙ zeroed_page all i from bytes c.requires.here.1 fits (sym c.if-not-blank-with.ensures) ∙ ap (λ t. cond t (overwritten all (256 * i + from) bytes) all) c.if-not-blank-with.ensures;
+      pages = told.pages ∙ zeroed_page all i from bytes c.requires.here.1 fits (sym c.if-not-blank_with.ensures) ∙ ap (λ t. cond t (overwritten all (256 * i + from) bytes) all) c.if-not-blank_with.ensures;
     }

@@ -15,13 +15,13 @@ pub loop-done-preserved : goal.loop-done-preserved
 loop-done-preserved c =
     let s = c.args.self.now in
     let t = c.loop-done.self in
-    let u = c.clear-blank.new.self in
+    let u = c.clear_blank.new.self in
     let bytes : List ℕ = c.args.bytes.now in
     let offset : ℕ = c.args.offset in
     let done : ℕ = c.loop-done.done in
     let n : ℕ = c.min-n.result in
     let inv = c.loop-done.invariant in
-    let told = c.clear-blank.ensures in
+    let told = c.clear_blank.ensures in
     let size = c.min-n.ensures in
     let mid : List ℕ = all_pages t.map.now t.pool.now in
     let i : ℕ = (offset + done) / 256 in
@@ -40,8 +40,8 @@ loop-done-preserved c =
       (λ h k. omega arith),
     )
 
-pub clear-blank-requires : goal.clear-blank-requires
-clear-blank-requires c =
+pub clear_blank-requires : goal.clear_blank-requires
+clear_blank-requires c =
     let t = c.loop-done.self in
     let bytes : List ℕ = c.args.bytes.now in
     let offset : ℕ = c.args.offset in

@@ -8,14 +8,14 @@ use Rattle.paged.proofs.pages.Pages.empty.Goals as goal
 
 pub returns : goal.returns
 returns c =
-    let table : List ℕ = c.clear-map.new.map in
+    let table : List ℕ = c.clear_map.new.map in
     let pool : List ℕ = c.args.pool.now in
-    let clear = c.clear-map.ensures.clear in
-    let own = c.all-spare.ensures in
+    let clear = c.clear_map.ensures.clear in
+    let own = c.all_spare.ensures in
     let all = all_clear table clear in
     let zeros : (p : ℕ) → get_or (all_pages table pool) p 0 ≡ 0 = λ p. pages_none pool _ p all in
     record {
-      valid = valid_of table pool c.all-spare.result 0 0
+      valid = valid_of table pool c.all_spare.result 0 0
           (record {
             placed = record {
               mapped = λ i l. omega (arith, clear i l);
@@ -29,7 +29,7 @@ returns c =
             room = omega arith;
           })
           (omega arith) (λ p h. zeros p);
-      same = same_set table c.args.map.now pool pool c.clear-map.ensures.len refl;
+      same = same_set table c.args.map.now pool pool c.clear_map.ensures.len refl;
       pool = refl;
-      kept = record { map_length = c.clear-map.ensures.len; pool_length = refl; map_rest = c.clear-map.ensures.rest; pool_rest = refl };
+      kept = record { map_length = c.clear_map.ensures.len; pool_length = refl; map_rest = c.clear_map.ensures.rest; pool_rest = refl };
     }

@@ -18,19 +18,19 @@ returns c =
     let bytes : List ℕ = c.args.bytes.now in
     c.loop-done.invariant.1 ∙ ap (λ b. filled_from (places s.map.now) (overwritten (all_pages s.map.now s.pool.now) c.args.offset b)) (take_all c.loop-done.done bytes (omega arith))
 
-pub overflow-add-count : goal.overflow-add-count
-overflow-add-count c =
+pub overflow_add-count : goal.overflow_add-count
+overflow_add-count c =
     let s = c.args.self.now in
     omega (
       arith,
       c.loop-done.invariant.1,
       filled_small (places s.map.now) (overwritten (all_pages s.map.now s.pool.now) c.args.offset (take c.loop-done.done c.args.bytes.now)),
       c.weight-after.ensures,
-      weight_small c.blank-with.result,
+      weight_small c.blank_with.result,
     )
 
-pub overflow-sub-count : goal.overflow-sub-count
-overflow-sub-count c =
+pub overflow_sub-count : goal.overflow_sub-count
+overflow_sub-count c =
     let s = c.args.self.now in
     let bytes : List ℕ = c.args.bytes.now in
     let offset : ℕ = c.args.offset in
@@ -40,7 +40,7 @@ overflow-sub-count c =
     let inv = c.loop-done.invariant in
     let step = chunk_count s.map.now s.pool.now s.spare s.used offset bytes done n ((offset + done) / 256) ((offset + done) % 256) c.requires.sound (omega arith) c.requires.inside (omega arith) (omega arith) (omega (arith, c.requires.inside))
     (λ h. inv.2 h c.loop-done-test.true) in
-    omega (arith, inv.1, c.weight.ensures, c.weight-after.ensures ∙ ap {B = ℕ} (λ t. cond t 0 1) c.blank-with.ensures)
+    omega (arith, inv.1, c.weight.ensures, c.weight-after.ensures ∙ ap {B = ℕ} (λ t. cond t 0 1) c.blank_with.ensures)
 
 pub loop-done-preserved : goal.loop-done-preserved
 loop-done-preserved c =
@@ -54,6 +54,6 @@ loop-done-preserved c =
     let step = chunk_count s.map.now s.pool.now s.spare s.used offset bytes done n ((offset + done) / 256) ((offset + done) % 256) c.requires.sound (omega arith) c.requires.inside (omega arith) (omega arith) (omega (arith, c.requires.inside))
     (λ h. inv.2 h c.loop-done-test.true) in (
       omega arith,
-      omega (arith, inv.1, c.weight.ensures, c.weight-after.ensures ∙ ap {B = ℕ} (λ t. cond t 0 1) c.blank-with.ensures),
+      omega (arith, inv.1, c.weight.ensures, c.weight-after.ensures ∙ ap {B = ℕ} (λ t. cond t 0 1) c.blank_with.ensures),
       (λ h k. omega arith),
     )

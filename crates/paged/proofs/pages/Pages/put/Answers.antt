@@ -8,8 +8,8 @@ use Rattle.paged.specs.FilledLaws.{weight_one, weight_none}
 use Rattle.paged.proofs.Puts.{put_count, sound_put, page_fits, zeroed_page}
 use Rattle.paged.proofs.pages.Pages.put.Goals as goal
 
-pub returns-then-blank-with : goal.returns-then-blank-with
-returns-then-blank-with c =
+pub returns-then-blank_with : goal.returns-then-blank_with
+returns-then-blank_with c =
     let s = c.args.self.now in
     let i : ℕ = c.args.i in
     let from : ℕ = c.args.from in
@@ -19,7 +19,7 @@ returns-then-blank-with c =
     record {
       sound = told.sound;
       kept = told.kept;
-      pages = told.pages ∙ zeroed_page (all_pages s.map.now s.pool.now) i from bytes c.requires.here.1 fits (sym c.if-blank-with.ensures);
+      pages = told.pages ∙ zeroed_page (all_pages s.map.now s.pool.now) i from bytes c.requires.here.1 fits (sym c.if-blank_with.ensures);
     }
 
 pub returns-then-self-i-ne0 : goal.returns-then-self-i-ne0
@@ -35,7 +35,7 @@ returns-then-self-i-ne0 c =
       sound = sound_put table s.pool.now s.spare s.used i c.args.from c.args.bytes.now c.requires.sound c.requires.here.0 c.requires.here.1 t.map.now t.pool.now t.spare t.used
           told.placed told.kept told.pages
           (λ j ne. ap (λ m. get_or m j 0) told.map)
-          (sym c.if-blank-with.ensures ∙ sym still)
+          (sym c.if-blank_with.ensures ∙ sym still)
           (omega (arith, told.used, weight_one _ some, weight_one _ still))
           c.requires.room;
       kept = told.kept;
@@ -49,7 +49,7 @@ claim-requires c =
     let count = put_count s.map.now s.pool.now s.spare s.used i c.args.from c.args.bytes.now c.requires.sound c.requires.here.0 c.requires.here.1 in
     record {
       here = (c.requires.here.0, c.if-self-i-ne0.false);
-      room = omega (arith, weight_none _ (eq-eqb (get_or s.map.now i 0) 0 c.if-self-i-ne0.false), weight_one _ (sym c.if-blank-with.ensures), c.requires.room);
+      room = omega (arith, weight_none _ (eq-eqb (get_or s.map.now i 0) 0 c.if-self-i-ne0.false), weight_one _ (sym c.if-blank_with.ensures), c.requires.room);
       placed = c.requires.sound.placed;
     }
 
@@ -71,7 +71,7 @@ returns c =
       sound = sound_put table s.pool.now s.spare s.used i from bytes c.requires.sound c.requires.here.0 c.requires.here.1 u.map.now u.pool.now u.spare u.used
           told.placed kept pages
           (λ j ne. ap (λ m. get_or m j 0) (told.map ∙ new.map) ∙ get_or-set_other table i j (get_or t.map.now i 0) 0 ne)
-          (sym c.if-blank-with.ensures ∙ sym (ne_eqb (get_or u.map.now i 0) 0 some))
+          (sym c.if-blank_with.ensures ∙ sym (ne_eqb (get_or u.map.now i 0) 0 some))
           (omega (arith, told.used, new.used, weight_none _ (eq-eqb (get_or table i 0) 0 c.if-self-i-ne0.false), weight_one _ (ne_eqb (get_or u.map.now i 0) 0 some)))
           c.requires.room;
       kept = kept;

@@ -17,7 +17,7 @@ returns c =
     let placed = c.requires.placed in
     let value : get_or table i 0 ≡ suc n = omega arith in
     let low : n < pool_pages pool = omega (arith, placed.mapped i here.0) in
-    let put = put_between (256 * n + from) (256 * n + from + length bytes - (256 * n + from)) pool c.copy-from-slice.new.self bytes c.copy-from-slice.ensures.after (omega arith) in
+    let put = put_between (256 * n + from) (256 * n + from + length bytes - (256 * n + from)) pool c.copy_from_slice.new.self bytes c.copy_from_slice.ensures.after (omega arith) in
     let fits : 256 * n + from + length bytes ≤ length pool = omega arith in
     let long = ap length put ∙ length_overwritten pool (256 * n + from) bytes fits in
     record {

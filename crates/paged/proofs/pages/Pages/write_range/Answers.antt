@@ -4,11 +4,11 @@ use Rattle.paged.specs.Pages.{all_pages, places, pool_pages, filled_from}
 use Rattle.paged.proofs.Steps.{kept_on}
 use Rattle.paged.proofs.pages.Pages.write_range.Goals as goal
 
-pub put-range-requires : goal.put-range-requires
-put-range-requires c =
+pub put_range-requires : goal.put_range-requires
+put_range-requires c =
     let s = c.args.self.now in
-    let t = c.clear-blanks.new.self in
-    let told = c.clear-blanks.ensures in
+    let t = c.clear_blanks.new.self in
+    let told = c.clear_blanks.ensures in
     let width : places t.map.now ≡ places s.map.now = ap (λ m. min m 65536) told.kept.map_length in
     let depth : pool_pages t.pool.now ≡ pool_pages s.pool.now = ap (λ m. min (m / 256) 65535) told.kept.pool_length in
     let result : List ℕ = overwritten (all_pages s.map.now s.pool.now) c.args.offset c.args.bytes.now in
@@ -23,10 +23,10 @@ put-range-requires c =
 pub returns : goal.returns
 returns c =
     let s = c.args.self.now in
-    let t = c.clear-blanks.new.self in
-    let u = c.put-range.new.self in
-    let first = c.clear-blanks.ensures in
-    let told = c.put-range.ensures in
+    let t = c.clear_blanks.new.self in
+    let u = c.put_range.new.self in
+    let first = c.clear_blanks.ensures in
+    let told = c.put_range.ensures in
     record {
       sound = told.sound;
       kept = kept_on s.map.now s.pool.now t.map.now t.pool.now u.map.now u.pool.now first.kept told.kept;

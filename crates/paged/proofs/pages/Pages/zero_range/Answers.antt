@@ -16,12 +16,12 @@ pub loop-done-preserved : goal.loop-done-preserved
 loop-done-preserved c =
     let s = c.args.self.now in
     let t = c.loop-done.self in
-    let u = c.put-zeros.new.self in
+    let u = c.put_zeros.new.self in
     let offset : ℕ = c.args.offset in
     let done : ℕ = c.loop-done.done in
     let n : ℕ = c.min-n.result in
     let inv = c.loop-done.invariant in
-    let put = c.put-zeros.ensures in
+    let put = c.put_zeros.ensures in
     let size = c.min-n.ensures in
     let old : List ℕ = all_pages s.map.now s.pool.now in
     let mid : List ℕ = all_pages t.map.now t.pool.now in
@@ -33,8 +33,8 @@ loop-done-preserved c =
       put.pages ∙ ap (λ o. overwritten mid o (replicate n 0)) place ∙ ap (λ b. overwritten b (offset + done) (replicate n 0)) inv.3 ∙ over_more old offset done n room,
     )
 
-pub put-zeros-requires : goal.put-zeros-requires
-put-zeros-requires c =
+pub put_zeros-requires : goal.put_zeros-requires
+put_zeros-requires c =
     let inv = c.loop-done.invariant in
     let size = c.min-n.ensures in
     let width = ap (λ m. min m 65536) inv.2.map_length in

@@ -15,16 +15,16 @@ pub loop-done-preserved : goal.loop-done-preserved
 loop-done-preserved c =
     let xs = c.args.bytes.now in
     let done = c.loop-done.done in
-    (omega arith, sym (next xs done 32 ∙ ap (λ t. t && blank (drop (done + 32) xs)) (sym c.if-not-zero-block.ensures)) ∙ c.loop-done.invariant.1)
+    (omega arith, sym (next xs done 32 ∙ ap (λ t. t && blank (drop (done + 32) xs)) (sym c.if-not-zero_block.ensures)) ∙ c.loop-done.invariant.1)
 
-pub returns-then-not-zero-block : goal.returns-then-not-zero-block
-returns-then-not-zero-block c =
+pub returns-then-not-zero_block : goal.returns-then-not-zero_block
+returns-then-not-zero_block c =
     let xs = c.args.bytes.now in
     let done = c.loop-done.done in
-    sym (next xs done 32 ∙ ap (λ t. t && blank (drop (done + 32) xs)) (sym c.if-not-zero-block.ensures)) ∙ c.loop-done.invariant.1
+    sym (next xs done 32 ∙ ap (λ t. t && blank (drop (done + 32) xs)) (sym c.if-not-zero_block.ensures)) ∙ c.loop-done.invariant.1
 
 pub returns : goal.returns
 returns c =
     let xs = c.args.bytes.now in
     let done = c.loop-done.done in
-    c.zero-block-2.ensures ∙ ap blank (take_all (length xs - done) (drop done xs) (omega (arith, length-drop done xs))) ∙ c.loop-done.invariant.1
+    c.zero_block-2.ensures ∙ ap blank (take_all (length xs - done) (drop done xs) (omega (arith, length-drop done xs))) ∙ c.loop-done.invariant.1

@@ -10,4 +10,4 @@ returns c =
     let count = length c.args.buf.now in
     let e : offset + count - offset ≡ count = omega arith in
     let whole : s.size ≤ length bytes = omega (arith, c.requires.fits) in
-    c.copy-from-slice.ensures.after ∙ ap (λ n. take n (drop offset bytes)) e ∙ sym (part_take s.size bytes offset count c.requires.inside whole)
+    c.copy_from_slice.ensures.after ∙ ap (λ n. take n (drop offset bytes)) e ∙ sym (part_take s.size bytes offset count c.requires.inside whole)

@@ -8,5 +8,5 @@ returns c =
     let s = c.args.self.now in
     let offset = c.args.offset in
     let bytes = c.args.bytes.now in
-    let put = put_between offset (offset + length bytes - offset) s.bytes.now c.copy-from-slice.new.self bytes c.copy-from-slice.ensures.after (omega arith) in
+    let put = put_between offset (offset + length bytes - offset) s.bytes.now c.copy_from_slice.new.self bytes c.copy_from_slice.ensures.after (omega arith) in
     record { changed = changed_over s.size s.bytes.now _ offset bytes c.requires.inside c.requires.fits put; size = refl; lender = refl }

@@ -11,8 +11,8 @@ bounds-self-self c =
     let long : length t.entries ≡ 64 = search rules in
     omega (arith, c.requires.room, count_is t long)
 
-pub invariant-of-self : goal.invariant-of-self
-invariant-of-self c =
+pub invariant_of-self : goal.invariant_of-self
+invariant_of-self c =
     let t = c.args.self.now in
     let long : length t.entries ≡ 64 = search rules in
     let room : t.count < 64 = omega (arith, c.requires.room, count_is t long) in
