@@ -174,8 +174,8 @@ ranged_all (Some s) = refl
 swapped : (rs ds : List (Run RangeMark)) → All (λ d. All (Beside d) rs) ds → All (λ r. All (λ d. Beside d r) ds) rs
 swapped [] ds h = tt
 swapped (r ∷ rs) ds h = (
-  AllWeaker (λ d. All (Beside d) (r ∷ rs)) (λ d. Beside d r) (λ d k. k.0) ds h,
-  swapped rs ds (AllWeaker (λ d. All (Beside d) (r ∷ rs)) (λ d. All (Beside d) rs) (λ d k. k.1) ds h),
+  All-weaker (λ d. All (Beside d) (r ∷ rs)) (λ d. Beside d r) (λ d k. k.0) ds h,
+  swapped rs ds (All-weaker (λ d. All (Beside d) (r ∷ rs)) (λ d. All (Beside d) rs) (λ d k. k.1) ds h),
 )
 
 -- the steps of ranges give a position what the records give it
@@ -214,6 +214,6 @@ pub steps_fit : (size : ℕ) (ds : List Content) → All (Fits size) ds → (rs 
 steps_fit size ds h [] a i g = tt
 steps_fit size ds h (r ∷ rs) a i g =
     let here = handed r.mark r.offset r.length (begun_in r.offset r.length ds) in
-    AllAppend (StepFits size) (numbered i here) (steps_from (i + 1) ds rs)
+    All-append (StepFits size) (numbered i here) (steps_from (i + 1) ds rs)
     (All-map (StepFits size) (λ c. (i, c)) here (handed_fit size r.mark r.offset r.length (begun_in r.offset r.length ds) (rising_le (ends r) size rs g.2) (begun_fit size r.offset r.length ds h)))
     (steps_fit size ds h rs (ends r) (i + 1) g.2)

@@ -29,24 +29,24 @@ begins_held xs r = begins_by xs r.offset r.length r.mark
 module _ (offset n : ℕ) (c : Content) (cs : List Content) where
   pub begun_yes : offset ≤ begins c → begins c < offset + n → begun_in offset n (c ∷ cs) ≡ c ∷ begun_in offset n cs
   begun_yes h l =
-      cond_true (leb offset (begins c) && ltb (begins c) (offset + n)) _ _
+      cond-true (leb offset (begins c) && ltb (begins c) (offset + n)) _ _
       (and_from (leb offset (begins c)) (ltb (begins c) (offset + n)) (le-leb offset (begins c) h) (lt-ltb (begins c) (offset + n) l))
 
   pub begun_early : begins c < offset → begun_in offset n (c ∷ cs) ≡ begun_in offset n cs
   begun_early h =
-      cond_false (leb offset (begins c) && ltb (begins c) (offset + n)) _ _ (and_left (leb offset (begins c)) (ltb (begins c) (offset + n)) (lt-leb offset (begins c) h))
+      cond-false (leb offset (begins c) && ltb (begins c) (offset + n)) _ _ (and_left (leb offset (begins c)) (ltb (begins c) (offset + n)) (lt-leb offset (begins c) h))
 
   pub begun_late : offset + n ≤ begins c → begun_in offset n (c ∷ cs) ≡ begun_in offset n cs
   begun_late h =
-      cond_false (leb offset (begins c) && ltb (begins c) (offset + n)) _ _ (and_right (leb offset (begins c)) (ltb (begins c) (offset + n)) (le-ltb (begins c) (offset + n) h))
+      cond-false (leb offset (begins c) && ltb (begins c) (offset + n)) _ _ (and_right (leb offset (begins c)) (ltb (begins c) (offset + n)) (le-ltb (begins c) (offset + n) h))
 
 -- how many parts at the front begin before a position
 module _ (p : ℕ) (r : Run PayloadMark) (rs : List (Run PayloadMark)) where
   leading_yes : r.offset < p → prefix_len (before p) (r ∷ rs) ≡ suc (prefix_len (before p) rs)
-  leading_yes h = cond_true (ltb r.offset p) _ _ (lt-ltb r.offset p h) ∙ one-add (prefix_len (before p) rs)
+  leading_yes h = cond-true (ltb r.offset p) _ _ (lt-ltb r.offset p h) ∙ one-add (prefix_len (before p) rs)
 
   leading_no : p ≤ r.offset → prefix_len (before p) (r ∷ rs) ≡ 0
-  leading_no h = cond_false (ltb r.offset p) _ _ (le-ltb r.offset p h)
+  leading_no h = cond-false (ltb r.offset p) _ _ (le-ltb r.offset p h)
 
 -- the parts from the first on that does not begin before a position
 abbrev pub since : ℕ → List (Run PayloadMark) → List (Run PayloadMark)

@@ -115,7 +115,7 @@ module _ (ds : List (Option Cell)) where
       let k : p - o < n = omega arith in
       let i : p - o < length (take n (drop o ds)) = simp (length-take, length-drop) (omega arith) in
       let e : o + (p - o) ≡ p = omega arith in
-      get_or_map (byte_over 0) (take n (drop o ds)) (p - o) None 0 i
+      get_or-map (byte_over 0) (take n (drop o ds)) (p - o) None 0 i
       ∙ ap (byte_over 0) (get_or-take n (drop o ds) (p - o) None k ∙ get_or-drop o ds (p - o) None ∙ ap (λ j. get_or ds j None) e)
 
   given_in : (m : RangeMark) (o n p : ℕ) → o + n ≤ length ds → o ≤ p → p < o + n → Some m ≡ option_map mark_of (get_or ds p None)
@@ -213,9 +213,9 @@ module _ (d : Difference) (x : Expressible d) where
       (λ p h.
       let l : p < length d.cells = omega (arith, length-map-range_with_len (laid cs) 0 n) in
       let m : p < length (map (option_map mark_of) d.cells) = omega arith in
-      get_or_map_range_with_len (laid cs) 0 n p p None l (omega arith)
+      get_or-map-range_with_len (laid cs) 0 n p p None l (omega arith)
       ∙ laid_behind d.from d.to n data' p
-      ∙ laid_ranges ds 0 n rs (ranges_rise ds fits) (omega arith) p (omega arith) l (tell.paints p m ∙ get_or_map (option_map mark_of) ds p None None l))
+      ∙ laid_ranges ds 0 n rs (ranges_rise ds fits) (omega arith) p (omega arith) l (tell.paints p m ∙ get_or-map (option_map mark_of) ds p None None l))
 
   pub expressed_means : difference (canonical_records d) ≡ d
   expressed_means =

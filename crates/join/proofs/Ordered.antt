@@ -95,7 +95,7 @@ module _ (ds : List Content) (size end : ℕ) (r : Rising size end ds) where
 behind_name : (tag : ℕ) (name rest : List ℕ) → get_or (header ++ (tag ∷ (le_bytes 4 (length name) ++ (name ++ rest)))) (17 + length name) 0 ≡ get_or rest 0 0
 behind_name tag name rest =
     let z : length name - length name ≡ 0 = omega arith in
-    get_or_append_add (header ++ (tag ∷ le_bytes 4 (length name))) (name ++ rest) (length name) 0
+    get_or-append-add (header ++ (tag ∷ le_bytes 4 (length name))) (name ++ rest) (length name) 0
     ∙ get_or-append_right name rest (length name) (length name) 0 refl (omega arith)
     ∙ ap (λ i. get_or rest i 0) z
 
@@ -115,7 +115,7 @@ module _ (ms ds : List Content) (xs : List ℕ) (size end : ℕ) (r : Rising siz
   parted cs = ap (λ v. v ++ tail) (encodings_append cs ds) ∙ append_assoc (encodings cs) (encodings ds) tail
 
   first_tag : first ms (encodings ds ++ tail) ≡ get_or xs 12 0
-  first_tag = sym (ap (λ v. get_or v 12 0) e ∙ get_or_append_add header (encodings (ms ++ ds) ++ tail) 0 0 ∙ ap (λ v. get_or v 0 0) (parted ms))
+  first_tag = sym (ap (λ v. get_or v 12 0) e ∙ get_or-append-add header (encodings (ms ++ ds) ++ tail) 0 0 ∙ ap (λ v. get_or v 0 0) (parted ms))
 
   -- the tag behind a from name
   next_tag : (name : List ℕ) (more : List Content) → ms ≡ from_name name ∷ more → first more (encodings ds ++ tail) ≡ get_or xs (17 + length name) 0

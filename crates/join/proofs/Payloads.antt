@@ -43,7 +43,7 @@ module _ (earlier later : List ℕ) (parts : List (Run PayloadMark)) (size : ℕ
   pub cells_at : (p : ℕ) → p < size → get_or (parts_cells earlier later parts size) p None ≡ option_map (cell_of earlier later) (at payload_moves parts p)
   cells_at p h =
       let l : p < length (painted payload_moves parts size) = omega (arith, length-map-range_with_len (at payload_moves parts) 0 size) in
-      get_or_map (option_map (cell_of earlier later)) (painted payload_moves parts size) p None None l
+      get_or-map (option_map (cell_of earlier later)) (painted payload_moves parts size) p None None l
       ∙ ap (option_map (cell_of earlier later)) (get_or-map-range_with_len (at payload_moves parts) 0 size p p None h (omega arith))
 
   -- positions that name the bytes of a stream one after another have these as payload
@@ -62,7 +62,7 @@ module _ (earlier later : List ℕ) (parts : List (Run PayloadMark)) (size : ℕ
       let l : i < length (take n (drop pos cells)) = simp (length-take, length-drop) (omega arith) in
       let u : pos + i < size = omega arith in
       let p : get_or (payload_at cells pos n) i 0 ≡ get_or s (place + i) 0 =
-      get_or_map (byte_over 0) (take n (drop pos cells)) i None 0 l
+      get_or-map (byte_over 0) (take n (drop pos cells)) i None 0 l
       ∙ ap (byte_over 0) (get_or-take n (drop pos cells) i None k ∙ get_or-drop pos cells i None ∙ cells_at (pos + i) u ∙ ap (option_map (cell_of earlier later)) (each i k)) in
       p ∙ sym (get_or-take n (drop place s) i 0 k ∙ get_or-drop place s i 0))
 
@@ -72,7 +72,7 @@ part_short s xs place n h =
     let test = leb (place + n) (length s) in
     ⊎_elim
     (λ y.
-    let e : Some xs ≡ Some (take n (drop place s)) = h ∙ cond_true test _ _ y in
+    let e : Some xs ≡ Some (take n (drop place s)) = h ∙ cond-true test _ _ y in
     let f : xs ≡ take n (drop place s) = cc in
     omega (arith, ap length f, length-take n (drop place s)))
     (λ y.
@@ -83,7 +83,7 @@ part_short s xs place n h =
 -- a place that does not pass 2^64 moves on plainly
 pub moves_plain : (place k : ℕ) → place + k < 2 ^ 64 → place_moves place k ≡ place + k
 moves_plain place k h =
-    cond_true (ltb place (2 ^ 64)) ((place + k) % 2 ^ 64) place (lt-ltb place (2 ^ 64) (omega arith)) ∙ mod-eq_of_lt h
+    cond-true (ltb place (2 ^ 64)) ((place + k) % 2 ^ 64) place (lt-ltb place (2 ^ 64) (omega arith)) ∙ mod-eq_of_lt h
 
 moves_none : (place : ℕ) → place_moves place 0 ≡ place
 moves_none place =

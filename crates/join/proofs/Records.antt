@@ -46,7 +46,7 @@ pub length_records : (ds : List (Option Cell)) (a b : ℕ) (rs : List (Run Range
 length_records ds a b [] h l = refl
 length_records ds a b (r ∷ rs) h l =
     let u = rising_le (ends r) b rs h.2 in
-    length_append (encoded (content_of ds r)) (encodings (map (content_of ds) rs))
+    length-append (encoded (content_of ds r)) (encodings (map (content_of ds) rs))
     ∙ omega (arith, length_record ds r (omega arith), length_records ds (ends r) b rs h.2 l)
 
 module _ (parts : List (Run PayloadMark)) (size : ℕ) where
@@ -95,8 +95,8 @@ pub length_canonical : (d : Difference) → length d.cells < 2 ^ 64 → length (
 length_canonical d fits =
     let op = opening d.from d.to (length d.cells) in
     let rs = encodings (map (content_of d.cells) (ranges d.cells)) in
-    ap length (canonical_is d) ∙ length_append (op ++ rs) (101 ∷ [])
-    ∙ omega (arith, length_append op rs, length_opening d.from d.to (length d.cells), length_records d.cells 0 (length d.cells) (ranges d.cells) (ranges_rise d.cells fits) (omega arith))
+    ap length (canonical_is d) ∙ length-append (op ++ rs) (101 ∷ [])
+    ∙ omega (arith, length-append op rs, length_opening d.from d.to (length d.cells), length_records d.cells 0 (length d.cells) (ranges d.cells) (ranges_rise d.cells fits) (omega arith))
 
 -- the ranges of the difference that parts mean
 module _ (earlier later : List ℕ) (parts : List (Run PayloadMark)) (size : ℕ) (fits : size < 2 ^ 64) where

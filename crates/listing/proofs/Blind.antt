@@ -59,7 +59,7 @@ verdict_is cs q rest total g t =
     let m = length-append (encodings cs) rest in
     let f = few cs in
     let fuel : suc total ≡ length cs + (suc total - length cs) = omega arith in
-    cond_true (same (take 12 xs) header) (reads (suc (length xs)) (length xs) start (drop 12 xs)) (Err (fault Header 0)) (header_tells xs (take_at header (encodings cs ++ rest) 12 refl))
+    cond-true (same (take 12 xs) header) (reads (suc (length xs)) (length xs) start (drop 12 xs)) (Err (fault Header 0)) (header_tells xs (take_at header (encodings cs ++ rest) 12 refl))
     ∙ ap (reads (suc (length xs)) (length xs) start) (drop_at header (encodings cs ++ rest) 12 refl)
     ∙ ap (λ n. reads (suc n) n start (encodings cs ++ rest)) (sym t)
     ∙ ap (λ n. reads n total start (encodings cs ++ rest)) fuel

@@ -36,7 +36,7 @@ getD_pages pool (k ∷ ks) p h l =
 
 pub all_mapped : (table pool : List ℕ) → Mapped table pool → All (λ k. k ≤ pool_pages pool) (take 65536 table)
 all_mapped table pool h =
-    AllFrom_get_or (λ k. k ≤ pool_pages pool) (take 65536 table) 0
+    All-from_get_or (λ k. k ≤ pool_pages pool) (take 65536 table) 0
     (λ i l. let short = length-take 65536 table in let low : i < 65536 = omega arith in rw get_or-take (h i (omega arith)))
 
 pub length_all : (table pool : List ℕ) → Mapped table pool → length (all_pages table pool) ≡ 256 * places table
@@ -59,7 +59,7 @@ read_whole image buf offset count e h each =
 -- a map of zeros
 pub all_clear : (table : List ℕ) → ((i : ℕ) → i < places table → slice_index table i ≡ 0) → All (λ k. k ≡ 0) (take 65536 table)
 all_clear table h =
-    AllFrom_get_or (λ k. k ≡ 0) (take 65536 table) 0
+    All-from_get_or (λ k. k ≡ 0) (take 65536 table) 0
     (λ i l. let short = length-take 65536 table in let low : i < 65536 = omega arith in rw get_or-take (h i (omega arith)))
 
 pub pages_none : (pool ks : List ℕ) (p : ℕ) → All (λ k. k ≡ 0) ks → slice_index (flat_map (page_at pool) ks) p ≡ 0

@@ -100,7 +100,7 @@ module _ (t : Table) (i n : ℕ) (l : i + 1 < length t.rows) where
       let there : k - suc i < length (drop (i + 2) t.rows) = omega (arith, length-drop (i + 2) t.rows) in
       let step : k - i ≡ suc (k - suc i) = omega arith in
       let place : i + 2 + (k - suc i) ≡ k + 1 = omega arith in
-      get_or_append_right (take i t.rows) (one ∷ map f (drop (i + 2) t.rows)) i k no_row (length-take i t.rows ∙ omega arith) (omega arith)
+      get_or-append_right (take i t.rows) (one ∷ map f (drop (i + 2) t.rows)) i k no_row (length-take i t.rows ∙ omega arith) (omega arith)
       ∙ ap (λ j. get_or (one ∷ map f (drop (i + 2) t.rows)) j no_row) step
       ∙ get_or-map f (drop (i + 2) t.rows) (k - suc i) no_row no_row there
       ∙ ap f (get_or-drop (i + 2) t.rows (k - suc i) no_row ∙ ap (λ j. get_or t.rows j no_row) place)

@@ -16,7 +16,7 @@ module _ (image : List ℕ) (offset : ℕ) (bytes : List ℕ) (fits : offset + l
   pub overwritten_in : (p : ℕ) → offset ≤ p → p < offset + length bytes → get_or (overwritten image offset bytes) p 0 ≡ get_or bytes (p - offset) 0
   overwritten_in p h k =
       let front : length (take offset image) ≡ offset = simp length-take (omega arith) in
-      get_or_append_right (take offset image) (bytes ++ drop (offset + length bytes) image) offset p 0 front h ∙ get_or_append_left bytes (drop (offset + length bytes) image) 0 (p - offset) (omega arith)
+      get_or-append_right (take offset image) (bytes ++ drop (offset + length bytes) image) offset p 0 front h ∙ get_or_append_left bytes (drop (offset + length bytes) image) 0 (p - offset) (omega arith)
 
   pub overwritten_before : (p : ℕ) → p < offset → get_or (overwritten image offset bytes) p 0 ≡ get_or image p 0
   overwritten_before p h =
@@ -27,8 +27,8 @@ module _ (image : List ℕ) (offset : ℕ) (bytes : List ℕ) (fits : offset + l
   overwritten_after p h =
       let front : length (take offset image) ≡ offset = simp length-take (omega arith) in
       let e : offset + length bytes + (p - offset - length bytes) ≡ p = omega arith in
-      get_or_append_right (take offset image) (bytes ++ drop (offset + length bytes) image) offset p 0 front (omega arith)
-      ∙ get_or_append_right bytes (drop (offset + length bytes) image) (length bytes) (p - offset) 0 refl (omega arith)
+      get_or-append_right (take offset image) (bytes ++ drop (offset + length bytes) image) offset p 0 front (omega arith)
+      ∙ get_or-append_right bytes (drop (offset + length bytes) image) (length bytes) (p - offset) 0 refl (omega arith)
       ∙ get_or-drop (offset + length bytes) image (p - offset - length bytes) 0 ∙ ap (λ n. get_or image n 0) e
 
 -- a front of the image that has the whole range, and what lies past it
@@ -60,7 +60,7 @@ getD_resized image size p l =
     ⊎_elim
     (λ low. get_or_append_left (take size image) (replicate (size - length image) 0) 0 p (omega arith) ∙ get_or-take size image p 0 l)
     (λ high.
-    get_or_append_right (take size image) (replicate (size - length image) 0) (length image) p 0 (omega arith) high
+    get_or-append_right (take size image) (replicate (size - length image) 0) (length image) p 0 (omega arith) high
     ∙ get_or-replicate {A = ℕ} (size - length image) (p - length image) 0 0 (omega arith) ∙ sym (get_or_past image p 0 high))
     (cases_lt p (length image))
 

@@ -26,23 +26,23 @@ then_ok r x g e = ap (λ t. then t g) e
 -- the checks pass
 name_passes : (rest : List ℕ) (n : ℕ) → 5 + n ≤ length rest → 1 ≤ n → n ≤ 64 → every_printable (field rest 5 n) ≡ true → name_by rest n ≡ Ok n
 name_passes rest n a b c d =
-    cond_false (ltb (length rest) 5) _ _ (le-ltb (length rest) 5 (omega arith))
-    ∙ cond_false (eqb n 0) _ _ (ne_eqb n 0 (λ e. omega arith))
-    ∙ cond_false (ltb 64 n) _ _ (le-ltb 64 n c)
-    ∙ cond_false (ltb (length rest) (5 + n)) _ _ (le-ltb (length rest) (5 + n) a)
+    cond-false (ltb (length rest) 5) _ _ (le-ltb (length rest) 5 (omega arith))
+    ∙ cond-false (eqb n 0) _ _ (ne_eqb n 0 (λ e. omega arith))
+    ∙ cond-false (ltb 64 n) _ _ (le-ltb 64 n c)
+    ∙ cond-false (ltb (length rest) (5 + n)) _ _ (le-ltb (length rest) (5 + n) a)
     ∙ cond-true (every_printable (field rest 5 n)) _ _ d
 
 size_passes : (rest : List ℕ) (n : ℕ) → 9 ≤ length rest → n ≤ 2 ^ 40 → size_by rest n ≡ Ok n
 size_passes rest n a b =
-    cond_false (ltb (length rest) 9) _ _ (le-ltb (length rest) 9 a) ∙ cond_false (ltb (2 ^ 40) n) _ _ (le-ltb (2 ^ 40) n b)
+    cond-false (ltb (length rest) 9) _ _ (le-ltb (length rest) 9 a) ∙ cond-false (ltb (2 ^ 40) n) _ _ (le-ltb (2 ^ 40) n b)
 
 range_passes : (p : Pos) (rest : List ℕ) (o n : ℕ) → 17 ≤ length rest → GoodRange p o n → range_by p rest o n ≡ Ok (o, n)
 range_passes p rest o n a g =
-    cond_false (ltb 511 p.count) _ _ (le-ltb 511 p.count (omega arith))
-    ∙ cond_false (ltb (length rest) 17) _ _ (le-ltb (length rest) 17 a)
-    ∙ cond_false (eqb n 0) _ _ (ne_eqb n 0 (λ e. omega arith))
-    ∙ cond_false (ltb p.size (o + n)) _ _ (le-ltb p.size (o + n) g.2)
-    ∙ cond_false (ltb o p.end) _ _ (le-ltb o p.end g.3)
+    cond-false (ltb 511 p.count) _ _ (le-ltb 511 p.count (omega arith))
+    ∙ cond-false (ltb (length rest) 17) _ _ (le-ltb (length rest) 17 a)
+    ∙ cond-false (eqb n 0) _ _ (ne_eqb n 0 (λ e. omega arith))
+    ∙ cond-false (ltb p.size (o + n)) _ _ (le-ltb p.size (o + n) g.2)
+    ∙ cond-false (ltb o p.end) _ _ (le-ltb o p.end g.3)
 
 -- a record as it lies in the stream
 abbrev pub lies : Pos → Content → Record
@@ -87,7 +87,7 @@ step_forth p (data_at o bytes) s more z r g =
     let f : le (field rest 9 8) ≡ n = le_eight n (omega arith) in
     let l : length rest ≡ 17 + (n + length more) = omega (arith, length-append bytes more) in
     let h = ap₂ (range_by p rest) e f ∙ range_passes p rest o n (omega arith) g in
-    let i : payload_of p rest ≡ Ok (o, n) = then_ok _ (o, n) _ h ∙ cond_false (ltb (length rest) (17 + n)) _ _ (le-ltb (length rest) (17 + n) (omega arith)) in
+    let i : payload_of p rest ≡ Ok (o, n) = then_ok _ (o, n) _ h ∙ cond-false (ltb (length rest) (17 + n)) _ _ (le-ltb (length rest) (17 + n) (omega arith)) in
     begins p 119 ((le_bytes 8 o ++ (le_bytes 8 (length bytes) ++ bytes)) ++ more) ∙ then_ok _ s _ r ∙ then_ok _ (o, n) _ i
 
 -- what was read is the record, and what follows begins behind it
@@ -138,7 +138,7 @@ pub list_forth : (cs : List Content) (k total : ℕ) (p : Pos) → p.size ≤ 2 
 list_forth [] zero total p z h t w = absurd (omega arith)
 list_forth [] (suc k) total p z h t w =
     ap (onward (reads k total) total p.place (101 ∷ [])) (begins p 101 [] ∙ then_ok _ _ _ w)
-    ∙ cond_false (ltb (p.place + 1) total) _ _ (le-ltb (p.place + 1) total (omega arith))
+    ∙ cond-false (ltb (p.place + 1) total) _ _ (le-ltb (p.place + 1) total (omega arith))
 list_forth (c ∷ cs) zero total p z h t w = absurd (omega arith)
 list_forth (c ∷ cs) (suc k) total p z h t w =
     let more = encodings cs ++ (101 ∷ []) in

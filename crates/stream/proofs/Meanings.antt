@@ -26,7 +26,7 @@ use Rattle.stream.proofs.Told.{field_behind, here, next, on, size_told}
 
 -- a state inside its range, and outside of it
 pub within_in : (o n p : ℕ) (s : Cell) → o ≤ p → p < o + n → within o n p s ≡ Some s
-within_in o n p s h l = cond_true (leb o p && ltb p (o + n)) (Some s) None (and_from (leb o p) (ltb p (o + n)) (le-leb o p h) (lt-ltb p (o + n) l))
+within_in o n p s h l = cond-true (leb o p && ltb p (o + n)) (Some s) None (and_from (leb o p) (ltb p (o + n)) (le-leb o p h) (lt-ltb p (o + n) l))
 
 within_before : (o n p : ℕ) (s : Cell) → p < o → within o n p s ≡ None
 within_before o n p s h = cond-false (leb o p && ltb p (o + n)) (Some s) None (and_left (leb o p) (ltb p (o + n)) (lt-leb o p h))
@@ -84,7 +84,7 @@ laid_before (zeros_at o n ∷ cs) size end p r h =
 byte_there : (xs : List ℕ) (place n k : ℕ) → length xs < 2 ^ 64 → place + n ≤ length xs → k < n → get_or (take n (drop place xs)) k 0 ≡ get_or xs (place_moves place k) 0
 byte_there xs place n k small fits h =
     let e : place_moves place k ≡ place + k =
-    cond_true (ltb place (2 ^ 64)) ((place + k) % 2 ^ 64) place (lt-ltb place (2 ^ 64) (omega arith)) ∙ mod-eq_of_lt (omega arith) in
+    cond-true (ltb place (2 ^ 64)) ((place + k) % 2 ^ 64) place (lt-ltb place (2 ^ 64) (omega arith)) ∙ mod-eq_of_lt (omega arith) in
     get_or-take n (drop place xs) k 0 h ∙ get_or-drop place xs k 0 ∙ ap (λ i. get_or xs i 0) (sym e)
 
 -- a record that gives a position nothing, and its run

@@ -38,7 +38,7 @@ kind_moves (Written side place) k = refl
 pub kinds_painted : (earlier later : List ℕ) (parts : List (Run PayloadMark)) (size : ℕ)
     → map (option_map mark_of) (parts_cells earlier later parts size) ≡ painted range_moves (map (remarked range_of) parts) size
 kinds_painted earlier later parts size =
-    map_map (option_map mark_of) (option_map (cell_of earlier later)) (painted payload_moves parts size)
+    map-map (option_map mark_of) (option_map (cell_of earlier later)) (painted payload_moves parts size)
     ∙ map_same (λ s. option_map mark_of (option_map (cell_of earlier later) s)) (option_map range_of) (kinds_agree earlier later) (painted payload_moves parts size)
     ∙ sym (painted_remarked payload_moves range_moves range_of kind_moves parts size)
 

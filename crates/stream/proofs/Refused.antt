@@ -77,7 +77,7 @@ wrong_read k total p rest f t w =
           let l = ap length x.1 in
           let n = x.2 in
           ap (reads (suc k) total p) x.1 ∙ at_end k total p Data x.0 x.3
-          ∙ cond_true (ltb (p.place + 1) total) _ _ (lt-ltb (p.place + 1) total (omega arith)) ∙ ap Err (sym x.4)
+          ∙ cond-true (ltb (p.place + 1) total) _ _ (lt-ltb (p.place + 1) total (omega arith)) ∙ ap Err (sym x.4)
     ]
 
 refused_read : (cs : List Content) (k total : ℕ) (p q : Pos) (more : List ℕ) (f : Fault) → p.size ≤ 2 ^ 40 → length (encodings cs) + length more < k
@@ -131,7 +131,7 @@ fault_refused xs f r =
           let d = ap (drop 12) x.1 ∙ drop_at header rest 12 refl ∙ w.3 in
           let l = ap length x.1 in
           let m = ap length w.3 ∙ length-append (encodings w.0) w.2 in
-          cond_true (same (take 12 xs) header) _ _ (header_tells xs e)
+          cond-true (same (take 12 xs) header) _ _ (header_tells xs e)
           ∙ ap (reads (suc (length xs)) (length xs) start) d
           ∙ refused_read w.0 (suc (length xs)) (length xs) start w.1 w.2 f (omega arith) (omega arith) (omega arith) w.4 w.5
     ]

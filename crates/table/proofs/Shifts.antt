@@ -15,7 +15,7 @@ module _ {X : Type 0} (f : X → X) (es : List X) where
 
   pub shifted_next : (k : ℕ) (d : X) → k + 1 ≤ length es → get_or (shifted k) (k + 1) d ≡ get_or es (k + 1) d
   shifted_next k d l =
-      get_or_append_right (changed k) (drop k es) k (k + 1) d (length_changed k l) (omega arith)
+      get_or-append_right (changed k) (drop k es) k (k + 1) d (length_changed k l) (omega arith)
       ∙ get_or-drop k es (k + 1 - k) d
       ∙ ap (λ m. get_or es m d) (omega arith)
 

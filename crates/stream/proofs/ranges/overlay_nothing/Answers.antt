@@ -11,8 +11,8 @@ overlay-requires c =
     let e : take (length parts - 0) c.put_kinds.new.out ≡ map (remarked range_of) parts =
     ap (λ k. take k c.put_kinds.new.out) (omega arith) ∙ c.put_kinds.ensures.kinds in
     record {
-      earlier-rising = omega arith;
-      later-rising = rw e (rising_remarked range_of 0 c.args.size parts c.requires.rising);
+      earlier_rising = omega arith;
+      later_rising = rw e (rising_remarked range_of 0 c.args.size parts c.requires.rising);
     }
 
 pub returns : goal.returns
