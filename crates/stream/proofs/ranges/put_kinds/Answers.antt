@@ -30,13 +30,8 @@ pub loop-i-preserved : goal.loop-i-preserved
 loop-i-preserved c =
     let i = c.loop-i.i in
     let out = c.loop-i.out in (
-<<<<<<< ours
       one_more c.args.parts.now out i c.kind_of.result c.loop-i-test.true (omega arith) c.kind_of.ensures c.loop-i.invariant.0,
-      drop_set_lt (i + 1) out i _ (omega arith) ∙ drop_further i (i + 1) out c.args.out.now (omega arith) c.loop-i.invariant.1,
-=======
-      one_more c.args.parts.now out i c.kind-of.result c.loop-i-test.true (omega arith) c.kind-of.ensures c.loop-i.invariant.0,
       drop-set-lt (i + 1) out i _ (omega arith) ∙ drop_further i (i + 1) out c.args.out.now (omega arith) c.loop-i.invariant.1,
->>>>>>> theirs
     )
 
 pub returns : goal.returns
