@@ -16,7 +16,7 @@ invariant_of-self c =
     let t = c.args.self.now in
     let long : length t.entries ≡ 64 = search rules in
     let room : t.count < 64 = omega (arith, c.requires.room, count_is t long) in
-    (omega arith, (appended_ends t long c.args.entry room c.requires.place, tt))
+    record { few = omega arith; ends = appended_ends t long c.args.entry room c.requires.place }
 
 pub returns : goal.returns
 returns c =

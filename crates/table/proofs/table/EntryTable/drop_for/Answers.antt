@@ -14,7 +14,7 @@ invariant_of-self c =
     let t = c.args.self.now in
     let long : length t.entries ≡ 64 = search rules in
     let ends = dropped_ends t long c.entry-first.result c.entry-first.ensures.row c.requires c.close_gap.new.entries _ c.close_gap.auto.entries c.close_gap.ensures in
-    (omega (arith, t.few), (ends, tt))
+    record { few = omega (arith, t.few); ends = ends }
 
 pub returns : goal.returns
 returns c =

@@ -13,7 +13,7 @@ invariant_of-self c =
     let t = c.args.self.now in
     let long : length t.entries ≡ 64 = search rules in
     let ends = united_ends t long c.args.i c.args.byte_count c.args.to c.unite.new.self c.entry-earlier.result c.entry_after-later.result c.unite.ensures c.entry-earlier.ensures.row c.entry_after-later.ensures.row c.requires.two c.close_gap.new.entries _ c.close_gap.auto.entries c.close_gap.ensures in
-    (omega arith, (ends, tt))
+    record { few = omega arith; ends = ends }
 
 pub returns : goal.returns
 returns c =
