@@ -46,24 +46,6 @@ valid_of table pool spare used size sound fits ended =
       unmapped = λ i l h. eqb-true (get_or table i 0) 0 (sym (sound.filled i l) ∙ page_blank all i (λ r. ended (256 * i + r) (omega arith)));
     }
 
--- the ghost fields of an image, in their order
-abbrev pub Ghosts : List ℕ → List ℕ → List ℕ → ℕ → ℕ → Type 0
-Ghosts table pool spare used size =
-    (length (take size (all_pages table pool)) ≡ size)
-    × (Mapped table pool
-    × (Apart table
-    × (SpareIn pool spare used
-    × (SpareApart pool spare used
-    × (SpareFree table pool spare used
-    × (Filled table pool
-    × ((used ≡ filled_pages (take size (all_pages table pool)))
-    × ((used ≤ pool_pages pool)
-    × (Ended table pool size
-    × (Unmapped table size × Unit {0}))))))))))
-
-pub ghosts : {table pool spare : List ℕ} {used size : ℕ} → Valid table pool spare used size → Ghosts table pool spare used size
-ghosts v = (v.long, (v.mapped, (v.apart, (v.spare_in, (v.spare_apart, (v.spare_free, (v.filled, (v.counted, (v.room, (v.ended, (v.unmapped, tt)))))))))))
-
 -- an image that is short enough is in the set exactly if its filled pages are few enough
 pub by_count : (table pool image : List ℕ) → length image ≤ 256 * places table → paged_set table pool image ≡ leb (filled_pages image) (pool_pages pool)
 unfolding paged_set

@@ -8,7 +8,7 @@ use Rattle.paged.specs.PageLaws.{length_all, same_set}
 use Rattle.paged.specs.Paged.{paged_image}
 use Rattle.paged.proofs.Puts.{blank_zeros}
 use Rattle.paged.proofs.Ranges.{zeros_fill_less}
-use Rattle.paged.proofs.Whole.{fits_of, whole_of, sound_of, valid_of, ghosts, by_count, ended_over, filled_over}
+use Rattle.paged.proofs.Whole.{fits_of, whole_of, sound_of, valid_of, by_count, ended_over, filled_over}
 use Rattle.paged.proofs.image.PagedImage.clear.Goals as goal
 
 pub zero_range-requires : goal.zero_range-requires
@@ -23,8 +23,11 @@ invariant_of-self c =
     let zeros : List ℕ = replicate c.args.count 0 in
     let lz : length zeros ≡ c.args.count = length-replicate {A = ℕ} c.args.count 0 in
     let all : List ℕ = all_pages s.pages.map.now s.pages.pool.now in
-    ghosts (valid_of t.map.now t.pool.now t.spare t.used s.size told.sound (omega (arith, fits_of s))
-    (λ p h. ap (λ b. get_or b p 0) told.pages ∙ ended_over all s.size c.args.offset zeros (omega (arith, c.requires)) (whole_of s) s.ended p h))
+    let v =
+    valid_of t.map.now t.pool.now t.spare t.used s.size told.sound (omega (arith, fits_of s))
+    (λ p h. ap (λ b. get_or b p 0) told.pages ∙ ended_over all s.size c.args.offset zeros (omega (arith, c.requires)) (whole_of s) s.ended p h)
+    in
+    record { long = v.long; mapped = v.mapped; apart = v.apart; sparein = v.spare_in; spareapart = v.spare_apart; sparefree = v.spare_free; filled = v.filled; counted = v.counted; room = v.room; ended = v.ended; unmapped = v.unmapped }
 
 pub returns : goal.returns
 returns c =

@@ -5,7 +5,7 @@ use Rattle.store.proofs.ImageLaws.{length_overwritten, take_overwritten}
 use Rattle.paged.specs.Pages.{all_pages, places, pool_pages, filled_pages}
 use Rattle.paged.specs.PageLaws.{same_set}
 use Rattle.paged.specs.Paged.{paged_image}
-use Rattle.paged.proofs.Whole.{fits_of, whole_of, sound_of, valid_of, ghosts, by_count, ended_over, filled_over}
+use Rattle.paged.proofs.Whole.{fits_of, whole_of, sound_of, valid_of, by_count, ended_over, filled_over}
 use Rattle.paged.proofs.image.PagedImage.put.Goals as goal
 
 pub write_range-requires : goal.write_range-requires
@@ -29,8 +29,11 @@ invariant_of-self c =
     let told = c.write_range.ensures in
     let width = ap (λ n. min n 65536) told.kept.map_length in
     let all : List ℕ = all_pages s.pages.map.now s.pages.pool.now in
-    ghosts (valid_of t.map.now t.pool.now t.spare t.used s.size told.sound (omega (arith, fits_of s))
-    (λ p h. ap (λ b. get_or b p 0) told.pages ∙ ended_over all s.size c.args.offset c.args.bytes.now c.requires.inside (whole_of s) s.ended p h))
+    let v =
+    valid_of t.map.now t.pool.now t.spare t.used s.size told.sound (omega (arith, fits_of s))
+    (λ p h. ap (λ b. get_or b p 0) told.pages ∙ ended_over all s.size c.args.offset c.args.bytes.now c.requires.inside (whole_of s) s.ended p h)
+    in
+    record { long = v.long; mapped = v.mapped; apart = v.apart; sparein = v.spare_in; spareapart = v.spare_apart; sparefree = v.spare_free; filled = v.filled; counted = v.counted; room = v.room; ended = v.ended; unmapped = v.unmapped }
 
 pub returns : goal.returns
 returns c =

@@ -4,15 +4,18 @@ use Rattle.std.proofs.lemmas.Bool.{cases_lt}
 use Rattle.paged.specs.Pages.{all_pages}
 use Rattle.paged.specs.PageLaws.{length_all}
 use Rattle.paged.proofs.Steps.{kept_none}
-use Rattle.paged.proofs.Whole.{sound_of, valid_of, ghosts, take_resized}
+use Rattle.paged.proofs.Whole.{sound_of, valid_of, take_resized}
 use Rattle.paged.proofs.image.PagedImage.set_size.Goals as goal
 
 pub invariant_of-self : goal.invariant_of-self
 invariant_of-self c =
     let s = c.args.self.now in
     let all : List _ = all_pages s.pages.map.now s.pages.pool.now in
-    ghosts (valid_of s.pages.map.now s.pages.pool.now s.pages.spare s.pages.used c.args.size (sound_of s) c.requires.room
-    (λ p h. ⊎_elim (λ low. sym (get_or-take s.size all p 0 low) ∙ c.requires.clear p h) (λ high. s.ended p high) (cases_lt p s.size)))
+    let v =
+    valid_of s.pages.map.now s.pages.pool.now s.pages.spare s.pages.used c.args.size (sound_of s) c.requires.room
+    (λ p h. ⊎_elim (λ low. sym (get_or-take s.size all p 0 low) ∙ c.requires.clear p h) (λ high. s.ended p high) (cases_lt p s.size))
+    in
+    record { long = v.long; mapped = v.mapped; apart = v.apart; sparein = v.spare_in; spareapart = v.spare_apart; sparefree = v.spare_free; filled = v.filled; counted = v.counted; room = v.room; ended = v.ended; unmapped = v.unmapped }
 
 pub returns : goal.returns
 returns c =
