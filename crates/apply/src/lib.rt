@@ -28,8 +28,8 @@ pub use parts::StreamParts;
 // resized. At a refusal what came before stands, and nothing else is done.
 pub fn apply_parts<S: Store>(stream: StreamParts, store: &mut S) -> Result<(), Fault>
     requires { WellParted stream.bytes.now stream.parts.now stream.size }
-    ensures same { holds store.new ≡ holds store.old }
-    ensures outcome { (result, image store.new) ≡ apply_steps (holds store.old) (image store.old) (part_steps stream.entry.bytes.now stream.entry.parts.now stream.entry.size) }
+    ensures same { S.holds store.new ≡ S.holds store.old }
+    ensures outcome { (result, S.image store.new) ≡ apply_steps (S.holds store.old) (S.image store.old) (part_steps stream.entry.bytes.now stream.entry.parts.now stream.entry.size) }
 {
     let mut ranges = [Run {
         offset: 0,
@@ -49,8 +49,8 @@ fn apply_told<S: Store>(
     store: &mut S,
 ) -> Result<(), Fault>
     requires { Told Later stream.now summary parts.now }
-    ensures same { holds store.new ≡ holds store.old }
-    ensures outcome { (result, image store.new) ≡ apply_read (holds store.old) (image store.old) (verdict stream.now) }
+    ensures same { S.holds store.new ≡ S.holds store.old }
+    ensures outcome { (result, S.image store.new) ≡ apply_read (S.holds store.old) (S.image store.old) (verdict stream.now) }
 {
     let count = summary.count;
     let read = StreamParts {
@@ -64,8 +64,8 @@ fn apply_told<S: Store>(
 // Applies a stream to the image of a store, whose present name is `name`. It is refused if the stream
 // has a fault, then if it leads from another name, and then nothing is altered; then by the store.
 pub fn apply<S: Store>(stream: &[u8], name: &[u8], store: &mut S) -> Result<(), Fault>
-    ensures same { holds store.new ≡ holds store.old }
-    ensures outcome { (result, image store.new) ≡ apply_answer (holds store.old) (image store.old) name.now stream.now }
+    ensures same { S.holds store.new ≡ S.holds store.old }
+    ensures outcome { (result, S.image store.new) ≡ apply_answer (S.holds store.old) (S.image store.old) name.now stream.now }
 {
     let mut parts = [Run {
         offset: 0,

@@ -14,8 +14,8 @@ use store::Store;
 
 // Resizes the image: record 0.
 pub(crate) fn resize_first<S: Store>(size: u64, store: &mut S) -> Result<(), Fault>
-    ensures same { holds store.new ≡ holds store.old }
-    ensures outcome { (result, image store.new) ≡ outcome_in_record 0 (resize_outcome (holds store.old) (image store.old) size) }
+    ensures same { S.holds store.new ≡ S.holds store.old }
+    ensures outcome { (result, S.image store.new) ≡ outcome_in_record 0 (resize_outcome (S.holds store.old) (S.image store.old) size) }
 {
     store.resize(size).in_record(0)
 }
@@ -28,8 +28,8 @@ fn write_part<S: Store>(
     store: &mut S,
 ) -> Result<(), Fault>
     requires { Lies stream.now part }
-    ensures same { holds store.new ≡ holds store.old }
-    ensures outcome { (result, image store.new) ≡ apply_steps (holds store.old) (image store.old) (numbered «record» (writes (held stream.now part ∷ []))) }
+    ensures same { S.holds store.new ≡ S.holds store.old }
+    ensures outcome { (result, S.image store.new) ≡ apply_steps (S.holds store.old) (S.image store.old) (numbered «record» (writes (held stream.now part ∷ []))) }
 {
     match payload(stream, stream, part) {
         Some((_, bytes)) => store.write(part.offset, bytes).in_record(record),
@@ -45,8 +45,8 @@ fn write_parts<S: Store>(
     store: &mut S,
 ) -> Result<(), Fault>
     requires { AllLie stream.now parts.now }
-    ensures same { holds store.new ≡ holds store.old }
-    ensures outcome { (result, image store.new) ≡ apply_steps (holds store.old) (image store.old) (numbered «record» (writes (map (held stream.now) parts.now))) }
+    ensures same { S.holds store.new ≡ S.holds store.old }
+    ensures outcome { (result, S.image store.new) ≡ apply_steps (S.holds store.old) (S.image store.old) (numbered «record» (writes (map (held stream.now) parts.now))) }
 {
     for part in parts {
         write_part(stream, *part, record, store)?;
@@ -63,8 +63,8 @@ fn apply_range<S: Store>(
     store: &mut S,
 ) -> Result<(), Fault>
     requires { AllLie stream.now parts.now }
-    ensures same { holds store.new ≡ holds store.old }
-    ensures outcome { (result, image store.new) ≡ apply_steps (holds store.old) (image store.old) (numbered «record» (handed range.mark range.offset range.length (map (held stream.now) parts.now))) }
+    ensures same { S.holds store.new ≡ S.holds store.old }
+    ensures outcome { (result, S.image store.new) ≡ apply_steps (S.holds store.old) (S.image store.old) (numbered «record» (handed range.mark range.offset range.length (map (held stream.now) parts.now))) }
 {
     match range.mark {
         RangeMark::Zeroed => store.zero(range.offset, range.length).in_record(record),
@@ -104,8 +104,8 @@ pub(crate) fn apply_ranges<S: Store>(
 ) -> Result<(), Fault>
     requires parts { WellParted stream.bytes.now stream.parts.now stream.size }
     requires rising { Rising 0 ranges.now stream.size }
-    ensures same { holds store.new ≡ holds store.old }
-    ensures outcome { (result, image store.new) ≡ apply_steps (holds store.old) (image store.old) (steps_from 1 (map (held stream.entry.bytes.now) stream.entry.parts.now) ranges.now) }
+    ensures same { S.holds store.new ≡ S.holds store.old }
+    ensures outcome { (result, S.image store.new) ≡ apply_steps (S.holds store.old) (S.image store.old) (steps_from 1 (map (held stream.entry.bytes.now) stream.entry.parts.now) ranges.now) }
 {
     let parts = stream.parts;
     let mut next = 0;

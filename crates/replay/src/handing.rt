@@ -53,11 +53,11 @@ pub(crate) fn settle_handed<S: Store>(
     handed: usize,
     base: &mut S,
 ) -> Result<usize, Fault>
-    ensures same { holds base.new ≡ holds base.old }
-    ensures answer { result ≡ untold (settle_answer (holds base.old) (shelf_table shelf.old) (take handed bytes.old) (image base.old)) }
-    ensures image { image base.new ≡ settle_image (holds base.old) (shelf_table shelf.old) (take handed bytes.old) (image base.old) }
-    ensures table { shelf_table shelf.new ≡ settle_table (holds base.old) (shelf_table shelf.old) (take handed bytes.old) (image base.old) }
-    ensures bytes { bytes.new ≡ settle_bytes (holds base.old) (shelf_table shelf.old) (take handed bytes.old) (image base.old) ++ drop handed bytes.old }
+    ensures same { S.holds base.new ≡ S.holds base.old }
+    ensures answer { result ≡ untold (settle_answer (S.holds base.old) (shelf_table shelf.old) (take handed bytes.old) (S.image base.old)) }
+    ensures image { S.image base.new ≡ settle_image (S.holds base.old) (shelf_table shelf.old) (take handed bytes.old) (S.image base.old) }
+    ensures table { shelf_table shelf.new ≡ settle_table (S.holds base.old) (shelf_table shelf.old) (take handed bytes.old) (S.image base.old) }
+    ensures bytes { bytes.new ≡ settle_bytes (S.holds base.old) (shelf_table shelf.old) (take handed bytes.old) (S.image base.old) ++ drop handed bytes.old }
 {
     let end = handed.min(bytes.len());
     tell_nothing(shelf.settle(&mut bytes[0..end], base))

@@ -17,9 +17,9 @@ fn make_call<S: Store>(
     buffer: &mut [u8],
     request: Request,
 ) -> Result<usize, Fault>
-    ensures same { holds base.new ≡ holds base.old }
-    ensures answer { result ≡ answer_of (happening (holds base.old) (scene shelf.old bytes.old (image base.old) buffer.old) request.entry) }
-    ensures left { scene shelf.new bytes.new (image base.new) buffer.new ≡ scene_after (holds base.old) (scene shelf.old bytes.old (image base.old) buffer.old) request.entry }
+    ensures same { S.holds base.new ≡ S.holds base.old }
+    ensures answer { result ≡ answer_of (happening (S.holds base.old) (scene shelf.old bytes.old (S.image base.old) buffer.old) request.entry) }
+    ensures left { scene shelf.new bytes.new (S.image base.new) buffer.new ≡ scene_after (S.holds base.old) (scene shelf.old bytes.old (S.image base.old) buffer.old) request.entry }
 {
     match request {
         Request::Put { handed, stream } => put_handed(shelf, bytes, handed, stream),
@@ -46,8 +46,8 @@ fn play<S: Store>(
     requests: &[Request],
     answers: &mut [Result<usize, Fault>],
 )
-    ensures same { holds base.new ≡ holds base.old }
-    ensures played { Played (holds base.old) (scene shelf.old bytes.old (image base.old) buffer.old) (take (length answers.old) requests.now) (scene shelf.new bytes.new (image base.new) buffer.new) answers.old answers.new }
+    ensures same { S.holds base.new ≡ S.holds base.old }
+    ensures played { Played (S.holds base.old) (scene shelf.old bytes.old (S.image base.old) buffer.old) (take (length answers.old) requests.now) (scene shelf.new bytes.new (S.image base.new) buffer.new) answers.old answers.new }
 {
     let count = requests.len().min(answers.len());
     for i in 0..count {
@@ -64,8 +64,8 @@ fn play_from_empty<S: Store>(
     requests: &[Request],
     answers: &mut [Result<usize, Fault>],
 ) -> Result<Shelf, Fault>
-    ensures same { holds base.new ≡ holds base.old }
-    ensures replayed { Replayed (holds base.old) name.now bytes.old (image base.old) buffer.old requests.now answers.old result bytes.new (image base.new) buffer.new answers.new }
+    ensures same { S.holds base.new ≡ S.holds base.old }
+    ensures replayed { Replayed (S.holds base.old) name.now bytes.old (S.image base.old) buffer.old requests.now answers.old result bytes.new (S.image base.new) buffer.new answers.new }
     ensures always { AlwaysComesBack }
 {
     let mut shelf = Shelf::new(name)?;
@@ -88,8 +88,8 @@ pub fn replay<S: Store>(
     requests: &[Request],
     answers: &mut [Result<usize, Fault>],
 ) -> Result<Shelf, Fault>
-    ensures same { holds base.new ≡ holds base.old }
-    ensures replayed { Replayed (holds base.old) name.now bytes.old (image base.old) buffer.old requests.now answers.old result bytes.new (image base.new) buffer.new answers.new }
+    ensures same { S.holds base.new ≡ S.holds base.old }
+    ensures replayed { Replayed (S.holds base.old) name.now bytes.old (S.image base.old) buffer.old requests.now answers.old result bytes.new (S.image base.new) buffer.new answers.new }
     ensures always { AlwaysComesBack }
 {
     play_from_empty(name, base, bytes, buffer, requests, answers)

@@ -36,9 +36,9 @@ fn check_first(table: &EntryTable, bytes: &[u8]) -> Result<(), Fault>
 fn apply_source<S: Store>(source: Source, store: &mut S) -> Result<(), Fault>
     requires sourced { Sourced Later source }
     requires own { Own source }
-    ensures same { holds store.new ≡ holds store.old }
-    ensures answer { result ≡ fault_by (in_entry 0) (settle_by (holds store.old) (image store.old) (Ok (source_difference source.entry))).0 }
-    ensures image { image store.new ≡ (settle_by (holds store.old) (image store.old) (Ok (source_difference source.entry))).1 }
+    ensures same { S.holds store.new ≡ S.holds store.old }
+    ensures answer { result ≡ fault_by (in_entry 0) (settle_by (S.holds store.old) (S.image store.old) (Ok (source_difference source.entry))).0 }
+    ensures image { S.image store.new ≡ (settle_by (S.holds store.old) (S.image store.old) (Ok (source_difference source.entry))).1 }
 {
     let stream = StreamParts {
         bytes: source.bytes,
@@ -50,9 +50,9 @@ fn apply_source<S: Store>(source: Source, store: &mut S) -> Result<(), Fault>
 
 // Applies entry 0 to the image of a store.
 fn apply_first<S: Store>(table: &EntryTable, bytes: &[u8], store: &mut S) -> Result<(), Fault>
-    ensures same { holds store.new ≡ holds store.old }
-    ensures answer { result ≡ settle_answer (holds store.old) (table_of table.now) bytes.now (image store.old) }
-    ensures image { image store.new ≡ settle_image (holds store.old) (table_of table.now) bytes.now (image store.old) }
+    ensures same { S.holds store.new ≡ S.holds store.old }
+    ensures answer { result ≡ settle_answer (S.holds store.old) (table_of table.now) bytes.now (S.image store.old) }
+    ensures image { S.image store.new ≡ settle_image (S.holds store.old) (table_of table.now) bytes.now (S.image store.old) }
     ensures leave { OnOk result (MayLeave (table_of table.now) bytes.now) }
 {
     check_first(table, bytes)?;
@@ -67,11 +67,11 @@ pub(crate) fn settle_first<S: Store>(
     bytes: &mut [u8],
     store: &mut S,
 ) -> Result<(), Fault>
-    ensures same { holds store.new ≡ holds store.old }
-    ensures answer { result ≡ settle_answer (holds store.old) (table_of table.old) bytes.old (image store.old) }
-    ensures image { image store.new ≡ settle_image (holds store.old) (table_of table.old) bytes.old (image store.old) }
-    ensures table { table_of table.new ≡ settle_table (holds store.old) (table_of table.old) bytes.old (image store.old) }
-    ensures bytes { bytes.new ≡ settle_bytes (holds store.old) (table_of table.old) bytes.old (image store.old) }
+    ensures same { S.holds store.new ≡ S.holds store.old }
+    ensures answer { result ≡ settle_answer (S.holds store.old) (table_of table.old) bytes.old (S.image store.old) }
+    ensures image { S.image store.new ≡ settle_image (S.holds store.old) (table_of table.old) bytes.old (S.image store.old) }
+    ensures table { table_of table.new ≡ settle_table (S.holds store.old) (table_of table.old) bytes.old (S.image store.old) }
+    ensures bytes { bytes.new ≡ settle_bytes (S.holds store.old) (table_of table.old) bytes.old (S.image store.old) }
 {
     apply_first(table, bytes, store)?;
     drop_entry(table, bytes);

@@ -3,4 +3,4 @@ use Rattle.listing.proofs.Longest.{ranges_are_longest}
 use Rattle.listing.proofs.laws_of_lists.Goals as goal
 
 pub returns : goal.returns
-returns c = record { longest = ranges_are_longest c.laws_of_runs.ensures.runs-exist; blind = blind_to_payload }
+returns c = record { longest = ranges_are_longest c.laws_of_runs.ensures.runs_exist; blind = blind_to_payload }

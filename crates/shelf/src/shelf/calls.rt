@@ -55,11 +55,11 @@ impl Shelf {
     // Refused, in this order: no entry, bytes that end before the fill, the entry, the store, which may
     // stop after some records: what they did stands, and the entry stays.
     pub fn settle<S: Store>(&mut self, bytes: &mut [u8], base: &mut S) -> Result<(), Fault>
-        ensures same { holds base.new ≡ holds base.old }
-        ensures answer { result ≡ settle_answer (holds base.old) (shelf_table self.old) bytes.old (image base.old) }
-        ensures image { image base.new ≡ settle_image (holds base.old) (shelf_table self.old) bytes.old (image base.old) }
-        ensures table { shelf_table self.new ≡ settle_table (holds base.old) (shelf_table self.old) bytes.old (image base.old) }
-        ensures bytes { bytes.new ≡ settle_bytes (holds base.old) (shelf_table self.old) bytes.old (image base.old) }
+        ensures same { S.holds base.new ≡ S.holds base.old }
+        ensures answer { result ≡ settle_answer (S.holds base.old) (shelf_table self.old) bytes.old (S.image base.old) }
+        ensures image { S.image base.new ≡ settle_image (S.holds base.old) (shelf_table self.old) bytes.old (S.image base.old) }
+        ensures table { shelf_table self.new ≡ settle_table (S.holds base.old) (shelf_table self.old) bytes.old (S.image base.old) }
+        ensures bytes { bytes.new ≡ settle_bytes (S.holds base.old) (shelf_table self.old) bytes.old (S.image base.old) }
     {
         settle_first(&mut self.table, bytes, base)
     }

@@ -14,8 +14,8 @@ overlay-requires c =
     let d : take (length l.parts.now - 0) c.mark_ranges-2.new.out ≡ map (remarked range_of) l.parts.now =
     ap (λ k. take k c.mark_ranges-2.new.out) (omega arith) ∙ c.mark_ranges-2.ensures.kinds in
     record {
-      earlier-rising = rw b (rising_remarked range_of 0 e.size e.parts.now c.requires.earlier_sourced.rising);
-      later-rising = rw d (rising_remarked range_of 0 l.size l.parts.now c.requires.later_sourced.rising);
+      earlier_rising = rw b (rising_remarked range_of 0 e.size e.parts.now c.requires.earlier_sourced.rising);
+      later_rising = rw d (rising_remarked range_of 0 l.size l.parts.now c.requires.later_sourced.rising);
     }
 
 pub returns : goal.returns

@@ -27,8 +27,8 @@ pub put_record-first-requires : goal.put_record-first-requires
 put_record-first-requires c =
     let j = c.args.joined in
     let rs = c.args.records.now in
-    let i = c.loop-run.run_index in
-    let lt : c.loop-run.run_index < length c.args.records.now = omega arith in
+    let i = c.loop-run.run-index in
+    let lt : c.loop-run.run-index < length c.args.records.now = omega arith in
     let h = next_rising rs i lt c.loop-run.invariant.0 j.size c.loop-run.invariant.2 in
     let a = next_ranged rs i lt j.parts.now j.size c.loop-run.invariant.3 in
     record {
@@ -40,22 +40,22 @@ put_record-first-requires c =
 
 pub record_length-requires : goal.record_length-requires
 record_length-requires c =
-    omega (arith, next_under c.args.records.now c.loop-run.run_index (omega arith) c.loop-run.invariant.0 c.args.joined.size c.loop-run.invariant.2)
+    omega (arith, next_under c.args.records.now c.loop-run.run-index (omega arith) c.loop-run.invariant.0 c.args.joined.size c.loop-run.invariant.2)
 
 pub overflow_add-at : goal.overflow_add-at
 overflow_add-at c =
-    let lt : c.loop-run.run_index < length c.args.records.now = omega arith in
-    omega (arith, next_length c.args.records.now c.loop-run.run_index lt, c.loop-run.invariant.4, c.record_length.ensures)
+    let lt : c.loop-run.run-index < length c.args.records.now = omega arith in
+    omega (arith, next_length c.args.records.now c.loop-run.run-index lt, c.loop-run.invariant.4, c.record_length.ensures)
 
 pub loop-run-preserved : goal.loop-run-preserved
 loop-run-preserved c =
     let j = c.args.joined in
     let rs = c.args.records.now in
-    let i = c.loop-run.run_index in
+    let i = c.loop-run.run-index in
     let cells = joined_cells j in
     let done = encodings (map (content_of cells) (take i rs)) in
     let one = encoded (content_of cells (run_of rs i)) in
-    let lt : c.loop-run.run_index < length c.args.records.now = omega arith in
+    let lt : c.loop-run.run-index < length c.args.records.now = omega arith in
     let h = next_rising rs i lt c.loop-run.invariant.0 j.size c.loop-run.invariant.2 in
     let a = next_ranged rs i lt j.parts.now j.size c.loop-run.invariant.3 in
     let lc : length cells ≡ j.size = length_cells j.earlier.now j.later.now j.parts.now j.size in
@@ -76,7 +76,7 @@ loop-run-preserved c =
 pub returns : goal.returns
 returns c =
     let rs = c.args.records.now in
-    let i = c.loop-run.run_index in
+    let i = c.loop-run.run-index in
     record {
       end = omega (arith, length_end rs i (omega arith), c.loop-run.invariant.4);
       buffer = c.loop-run.invariant.6 ∙ ap (λ q. patched c.args.out.now c.args.start q) (bytes_end (joined_cells c.args.joined) rs i (omega arith));

@@ -20,7 +20,7 @@ pub slice_bounds-put_line-count : goal.slice_bounds-put_line-count
 slice_bounds-put_line-count c =
     let v = c.loop-run.invariant in
     let rs = c.args.ranges.now in
-    let i = c.loop-run.run_index in
+    let i = c.loop-run.run-index in
     let r = lines_room rs i c.loop-run-test.true in
     let a = v.0 in
     let b = v.2 in
@@ -31,7 +31,7 @@ pub slice_bounds-put_line-start : goal.slice_bounds-put_line-start
 slice_bounds-put_line-start c =
     let v = c.loop-run.invariant in
     let rs = c.args.ranges.now in
-    let i = c.loop-run.run_index in
+    let i = c.loop-run.run-index in
     let r = lines_room rs i c.loop-run-test.true in
     let a = v.0 in
     let b = v.2 in
@@ -42,7 +42,7 @@ pub put_line-at-requires : goal.put_line-at-requires
 put_line-at-requires c =
     let v = c.loop-run.invariant in
     let rs = c.args.ranges.now in
-    let i = c.loop-run.run_index in
+    let i = c.loop-run.run-index in
     let r = lines_room rs i c.loop-run-test.true in
     let a = v.0 in
     let b = v.2 in
@@ -52,7 +52,7 @@ pub overflow_add-at : goal.overflow_add-at
 overflow_add-at c =
     let v = c.loop-run.invariant in
     let rs = c.args.ranges.now in
-    let i = c.loop-run.run_index in
+    let i = c.loop-run.run-index in
     let r = lines_room rs i c.loop-run-test.true in
     let a = v.0 in
     let b = v.2 in
@@ -63,7 +63,7 @@ pub loop-run-preserved : goal.loop-run-preserved
 loop-run-preserved c =
     let v = c.loop-run.invariant in
     let rs = c.args.ranges.now in
-    let i = c.loop-run.run_index in
+    let i = c.loop-run.run-index in
     let r = lines_room rs i c.loop-run-test.true in
     let m = lines_more rs i c.loop-run-test.true in
     let k = ap length m ∙ length-append (lines (take i rs)) (line (get_or rs i none)) in
@@ -81,7 +81,7 @@ returns c =
     let v = c.loop-run.invariant in
     let rs = c.args.ranges.now in
     let l = length_listing rs in
-    v.1 ∙ ap (patched c.put_bytes.new.tail 19) (lines_all rs c.loop-run.run_index c.loop-run-test.false)
+    v.1 ∙ ap (patched c.put_bytes.new.tail 19) (lines_all rs c.loop-run.run-index c.loop-run-test.false)
     ∙ ap (λ t. patched t 19 (lines rs)) c.put_bytes.ensures
     ∙ patched_on c.args.out.now heading (lines rs) 0 (omega arith)
     ∙ ap (patched c.args.out.now 0) (listing_is rs)

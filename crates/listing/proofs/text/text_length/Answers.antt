@@ -7,7 +7,7 @@ use Rattle.listing.proofs.text.text_length.Goals as goal
 pub loop-run-preserved : goal.loop-run-preserved
 loop-run-preserved c =
     let rs = c.args.ranges.now in
-    let i = c.loop-run.run_index in
+    let i = c.loop-run.run-index in
     let e = ap length (lines_more rs i c.loop-run-test.true) ∙ length-append (lines (take i rs)) (line (get_or rs i none)) in
     let v = c.loop-run.invariant in
     let x = c.line_length-total.ensures.exact in
@@ -18,6 +18,6 @@ pub returns : goal.returns
 returns c =
     let rs = c.args.ranges.now in
     let v = c.loop-run.invariant.0 in
-    let e = ap length (lines_all rs c.loop-run.run_index c.loop-run-test.false) in
+    let e = ap length (lines_all rs c.loop-run.run-index c.loop-run-test.false) in
     let l = length_listing rs in
     omega arith
