@@ -49,7 +49,7 @@ module _ (t : Table) (bytes : List ℕ) (i : ℕ) (work : List ℕ) where
       let fit = fits_done (joined f.0 g.0) d (fault_by_back (in_entry i) _ d g.2) in
       let count : length (canonical d) ≡ n = ap length is ∙ long in
       let wrote : join_work t bytes i work ≡ stream ++ drop (length stream) work =
-      ap (λ r. filled_by r work) a.1 ∙ cond-false (ltb (length work) (length stream)) _ _ (ap (λ xs. ltb (length work) (length xs)) (sym is) ∙ fit.in-work) in
+      ap (λ r. filled_by r work) a.1 ∙ cond-false (ltb (length work) (length stream)) _ _ (ap (λ xs. ltb (length work) (length xs)) (sym is) ∙ fit.in_work) in
       let front : take n (join_work t bytes i work) ≡ stream = ap (take n) wrote ∙ take_at stream (drop (length stream) work) n long in
       record {
         two = leb-false (length t.rows) (i + 1) c.0;
