@@ -1,7 +1,7 @@
 -- The steps of ranges give each position what the records give it, and lie within the size. Rests on the steps and on where records lie.
 use Rattle.std.proofs.Common.{◌≡◌, ℕ, ◌+◌, ◌<◌, ◌≤◌, Bool, true, false, cond, ◌&&◌, ltb, leb, ◌⊎◌, List, [], ◌∷◌, ◌++◌, length, Some, None, Option, sym, refl, ap, ◌∙◌, ap₂, inl, inr, arith}
 use Rattle.std.specs.Option.{option_map}
-use Rattle.std.specs.List.{AllByRecursion as All}
+use Rattle.std.specs.List.{AllByRecursion}
 use Rattle.std.proofs.ByRecursion.{All-append, All-map, All-weaker}
 use Rattle.std.proofs.lemmas.List.{map-append}
 use Rattle.std.proofs.lemmas.Bool.{cases_Bool, cases_lt, leb-true, ltb-true, leb-false, ltb-false, and_parts, and_cases, cond-true, cond-false, cond_both}
@@ -54,7 +54,7 @@ cond_same true x y h = h refl
 cond_same false x y h = refl
 
 -- the records that begin inside a written range give its positions what all records give them, and no others anything
-writes_in : (r : Run RangeMark) → r.mark ≡ Written → (p size : ℕ) (ds : List Content) (end : ℕ) → sound.Rising size end ds → All (λ d. Beside d r) (spans ds)
+writes_in : (r : Run RangeMark) → r.mark ≡ Written → (p size : ℕ) (ds : List Content) (end : ℕ) → sound.Rising size end ds → AllByRecursion (λ d. Beside d r) (spans ds)
     → laid (writes (begun_in r.offset r.length ds)) p ≡ cond (covers r p) (laid ds p) None
 writes_in r w p size [] end h b = cond_none (covers r p)
 writes_in r w p size (from_name name ∷ ds) end h b = absurd h
@@ -108,7 +108,7 @@ kind_zeroed (Some zeroed) e = refl
 kind_zeroed (Some (written b)) e = let z : ◌≡◌ {A = ℕ} 0 1 = cc in absurd (omega arith)
 
 -- what is handed over for a range gives its positions what the records give them, and no others anything
-handed_in : (m : RangeMark) (r : Run RangeMark) → r.mark ≡ m → (p size : ℕ) (ds : List Content) (end : ℕ) → sound.Rising size end ds → All (λ d. Beside d r) (spans ds)
+handed_in : (m : RangeMark) (r : Run RangeMark) → r.mark ≡ m → (p size : ℕ) (ds : List Content) (end : ℕ) → sound.Rising size end ds → AllByRecursion (λ d. Beside d r) (spans ds)
     → (covers r p ≡ true → option_map mark_of (laid ds p) ≡ Some m)
     → laid (handed m r.offset r.length (begun_in r.offset r.length ds)) p ≡ cond (covers r p) (laid ds p) None
 handed_in Zeroed r e p size ds end h b k = cond_same (covers r p) (Some zeroed) (laid ds p) (λ y. sym (kind_zeroed (laid ds p) (k y)))
@@ -127,7 +127,7 @@ abbrev ranged : Option RangeMark → Option Cell → Option Cell
 ranged None s = None
 ranged (Some m) s = s
 
-steps_in : (p size : ℕ) (ds : List Content) (end : ℕ) → sound.Rising size end ds → (rs : List (Run RangeMark)) (a b i : ℕ) → Rising a rs b → All (λ r. All (λ d. Beside d r) (spans ds)) rs
+steps_in : (p size : ℕ) (ds : List Content) (end : ℕ) → sound.Rising size end ds → (rs : List (Run RangeMark)) (a b i : ℕ) → Rising a rs b → AllByRecursion (λ r. AllByRecursion (λ d. Beside d r) (spans ds)) rs
     → ((m : RangeMark) → at range_moves rs p ≡ Some m → option_map mark_of (laid ds p) ≡ Some m)
     → laid (records_of (steps_from i ds rs)) p ≡ ranged (at range_moves rs p) (laid ds p)
 steps_in p size ds end h [] a b i g s k = refl
@@ -171,21 +171,21 @@ ranged_all None = refl
 ranged_all (Some s) = refl
 
 -- from each record beside all ranges to each range beside all records
-swapped : (rs ds : List (Run RangeMark)) → All (λ d. All (Beside d) rs) ds → All (λ r. All (λ d. Beside d r) ds) rs
+swapped : (rs ds : List (Run RangeMark)) → AllByRecursion (λ d. AllByRecursion (Beside d) rs) ds → AllByRecursion (λ r. AllByRecursion (λ d. Beside d r) ds) rs
 swapped [] ds h = tt
 swapped (r ∷ rs) ds h = (
-  All-weaker (λ d. All (Beside d) (r ∷ rs)) (λ d. Beside d r) (λ d k. k.0) ds h,
-  swapped rs ds (All-weaker (λ d. All (Beside d) (r ∷ rs)) (λ d. All (Beside d) rs) (λ d k. k.1) ds h),
+  All-weaker (λ d. AllByRecursion (Beside d) (r ∷ rs)) (λ d. Beside d r) (λ d k. k.0) ds h,
+  swapped rs ds (All-weaker (λ d. AllByRecursion (Beside d) (r ∷ rs)) (λ d. AllByRecursion (Beside d) rs) (λ d k. k.1) ds h),
 )
 
 -- the steps of ranges give a position what the records give it
-pub steps_laid : (p size : ℕ) (ds : List Content) (end : ℕ) → sound.Rising size end ds → (rs : List (Run RangeMark)) (b i : ℕ) → Rising 0 rs b → All (λ d. All (Beside d) rs) (spans ds)
+pub steps_laid : (p size : ℕ) (ds : List Content) (end : ℕ) → sound.Rising size end ds → (rs : List (Run RangeMark)) (b i : ℕ) → Rising 0 rs b → AllByRecursion (λ d. AllByRecursion (Beside d) rs) (spans ds)
     → at range_moves rs p ≡ option_map mark_of (laid ds p) → laid (records_of (steps_from i ds rs)) p ≡ laid ds p
 steps_laid p size ds end h rs b i g s k =
     steps_in p size ds end h rs 0 b i g (swapped rs (spans ds) s) (λ m e. sym k ∙ e) ∙ ap (λ o. ranged o (laid ds p)) k ∙ ranged_all (laid ds p)
 
 -- the steps lie within the size
-pub datas_fit : (ds : List Content) (size end : ℕ) → sound.Rising size end ds → All (Fits size) ds
+pub datas_fit : (ds : List Content) (size end : ℕ) → sound.Rising size end ds → AllByRecursion (Fits size) ds
 datas_fit [] size end h = tt
 datas_fit (from_name name ∷ ds) size end h = absurd h
 datas_fit (to_name name ∷ ds) size end h = absurd h
@@ -193,12 +193,12 @@ datas_fit (image_size n ∷ ds) size end h = absurd h
 datas_fit (data_at o bytes ∷ ds) size end h = (h.2, datas_fit ds size (o + length bytes) h.3)
 datas_fit (zeros_at o n ∷ ds) size end h = (h.2, datas_fit ds size (o + n) h.3)
 
-begun_fit : (size offset n : ℕ) (cs : List Content) → All (Fits size) cs → All (Fits size) (begun_in offset n cs)
+begun_fit : (size offset n : ℕ) (cs : List Content) → AllByRecursion (Fits size) cs → AllByRecursion (Fits size) (begun_in offset n cs)
 begun_fit size offset n [] h = tt
 begun_fit size offset n (c ∷ cs) h =
-    cond_both _ (c ∷ begun_in offset n cs) (begun_in offset n cs) (All (Fits size)) (λ _. (h.0, begun_fit size offset n cs h.1)) (λ _. begun_fit size offset n cs h.1)
+    cond_both _ (c ∷ begun_in offset n cs) (begun_in offset n cs) (AllByRecursion (Fits size)) (λ _. (h.0, begun_fit size offset n cs h.1)) (λ _. begun_fit size offset n cs h.1)
 
-writes_fit : (size : ℕ) (cs : List Content) → All (Fits size) cs → All (Fits size) (writes cs)
+writes_fit : (size : ℕ) (cs : List Content) → AllByRecursion (Fits size) cs → AllByRecursion (Fits size) (writes cs)
 writes_fit size [] h = tt
 writes_fit size (from_name name ∷ cs) h = writes_fit size cs h.1
 writes_fit size (to_name name ∷ cs) h = writes_fit size cs h.1
@@ -206,11 +206,11 @@ writes_fit size (image_size n ∷ cs) h = writes_fit size cs h.1
 writes_fit size (data_at o bytes ∷ cs) h = (h.0, writes_fit size cs h.1)
 writes_fit size (zeros_at o n ∷ cs) h = writes_fit size cs h.1
 
-handed_fit : (size : ℕ) (m : RangeMark) (offset n : ℕ) (cs : List Content) → offset + n ≤ size → All (Fits size) cs → All (Fits size) (handed m offset n cs)
+handed_fit : (size : ℕ) (m : RangeMark) (offset n : ℕ) (cs : List Content) → offset + n ≤ size → AllByRecursion (Fits size) cs → AllByRecursion (Fits size) (handed m offset n cs)
 handed_fit size Zeroed offset n cs l h = (l, tt)
 handed_fit size Written offset n cs l h = writes_fit size cs h
 
-pub steps_fit : (size : ℕ) (ds : List Content) → All (Fits size) ds → (rs : List (Run RangeMark)) (a i : ℕ) → Rising a rs size → All (StepFits size) (steps_from i ds rs)
+pub steps_fit : (size : ℕ) (ds : List Content) → AllByRecursion (Fits size) ds → (rs : List (Run RangeMark)) (a i : ℕ) → Rising a rs size → AllByRecursion (StepFits size) (steps_from i ds rs)
 steps_fit size ds h [] a i g = tt
 steps_fit size ds h (r ∷ rs) a i g =
     let here = handed r.mark r.offset r.length (begun_in r.offset r.length ds) in

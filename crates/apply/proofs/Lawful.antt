@@ -1,7 +1,7 @@
 -- The laws of applying a sound list of records. Rests on what its steps make of an image, and on how they are refused.
 use Rattle.std.proofs.Common.{◌≡◌, ℕ, ◌<◌, List, get_or, None, sym, refl, ap, ◌∙◌, ap₂, inl, inr, arith}
 use Rattle.std.specs.Option.{option_map}
-use Rattle.std.specs.List.{AllByRecursion as All}
+use Rattle.std.specs.List.{AllByRecursion}
 use Rattle.std.proofs.lemmas.List.{ext_get_or}
 use Rattle.std.proofs.lemmas.Bool.{cases_Bool}
 use Rattle.overlay.specs.Marks.{range_moves}
@@ -29,7 +29,7 @@ abbrev later : List Content → List Step
 later cs = steps_from 1 (data_of cs) (ranges (cells cs))
 
 module _ (cs : List Content) (s : Sound cs) where
-  later_fit : All (StepFits (size_in 0 cs)) (later cs)
+  later_fit : AllByRecursion (StepFits (size_in 0 cs)) (later cs)
   later_fit = steps_fit (size_in 0 cs) (data_of cs) (datas_fit (data_of cs) (size_in 0 cs) 0 (sound_rising cs s)) (ranges (cells cs)) 0 1 (ranges_rise cs (sound_small cs s))
 
   -- below the size they give a position what the records give it

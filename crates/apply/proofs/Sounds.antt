@@ -2,7 +2,7 @@
 use Rattle.std.proofs.Common.{◌≡◌, ℕ, ◌+◌, ◌^◌, ◌<◌, ◌≤◌, List, [], ◌∷◌, ◌++◌, map, length, get_or, None, refl, ap, ◌∙◌, subst, arith}
 use lib.ListN.{length-map}
 use Rattle.std.specs.Option.{option_map}
-use Rattle.std.specs.List.{AllByRecursion as All}
+use Rattle.std.specs.List.{AllByRecursion}
 use Rattle.std.proofs.lemmas.List.FromFn.{length-map-range_with_len, get_or-map-range_with_len}
 use Rattle.std.proofs.lemmas.List.{get_or-map}
 use Rattle.overlay.specs.Marks.{range_moves}
@@ -27,7 +27,7 @@ data_same (image_size n ∷ ds) size end r = absurd r
 data_same (data_at o bytes ∷ ds) size end r = ap (λ cs. data_at o bytes ∷ cs) (data_same ds size (o + length bytes) r.3)
 data_same (zeros_at o n ∷ ds) size end r = ap (λ cs. zeros_at o n ∷ cs) (data_same ds size (o + n) r.3)
 
-data_skip : (ms ds : List Content) → All GoodMeta ms → data_of (ms ++ ds) ≡ data_of ds
+data_skip : (ms ds : List Content) → AllByRecursion GoodMeta ms → data_of (ms ++ ds) ≡ data_of ds
 data_skip [] ds g = refl
 data_skip (from_name name ∷ ms) ds g = data_skip ms ds g.1
 data_skip (to_name name ∷ ms) ds g = data_skip ms ds g.1

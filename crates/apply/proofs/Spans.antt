@@ -1,7 +1,7 @@
 -- Each data record lies in one range of its kind, and in no other. Rests on canonical runs, and on what records give a position.
 use Rattle.std.proofs.Common.{◌≡◌, ℕ, ◌+◌, ◌<◌, ◌≤◌, Bool, true, false, cond, ◌&&◌, ltb, leb, ◌⊎◌, List, [], ◌∷◌, length, Some, None, Option, sym, refl, ap, ◌∙◌, inl, inr, arith}
 use Rattle.std.specs.Option.{option_map}
-use Rattle.std.specs.List.{AllByRecursion as All}
+use Rattle.std.specs.List.{AllByRecursion}
 use Rattle.std.proofs.lemmas.Bool.{cases_lt}
 use Rattle.overlay.specs.declared.runs.Run.{Run}
 use Rattle.overlay.specs.declared.ranges.RangeMark.{RangeMark}
@@ -90,14 +90,14 @@ stops r (s ∷ rs) b h a e =
           a t (some_same r.mark s.mark (at range_moves (s ∷ rs) (ends r)) e f)
     ]
 
-all_behind : (d : Run RangeMark) (rs : List (Run RangeMark)) (a b : ℕ) → Rising a rs b → ends d ≤ a → All (Beside d) rs
+all_behind : (d : Run RangeMark) (rs : List (Run RangeMark)) (a b : ℕ) → Rising a rs b → ends d ≤ a → AllByRecursion (Beside d) rs
 all_behind d [] a b h l = tt
 all_behind d (r ∷ rs) a b h l = (inl (let g = h.0 in omega arith), all_behind d rs (ends r) b h.2 (let g = h.0 in omega arith))
 
 -- positions of one kind, side by side, lie in one range
 module _ (d : Run RangeMark) (some : 1 ≤ d.length) where
   one_range : (rs : List (Run RangeMark)) (a b : ℕ) → Rising a rs b → Apart range_moves rs
-      → ((q : ℕ) → d.offset ≤ q → q < ends d → at range_moves rs q ≡ Some d.mark) → All (Beside d) rs
+      → ((q : ℕ) → d.offset ≤ q → q < ends d → at range_moves rs q ≡ Some d.mark) → AllByRecursion (Beside d) rs
   one_range [] a b h p e = tt
   one_range (r ∷ rs) a b h p e =
       let low = e d.offset (omega arith) (omega arith) in
@@ -120,7 +120,7 @@ module _ (d : Run RangeMark) (some : 1 ≤ d.length) where
 
 -- so does each of the spans whose kinds the ranges tell
 pub all_beside : (rs : List (Run RangeMark)) (size : ℕ) → Rising 0 rs size → Apart range_moves rs → (ds : List (Run RangeMark)) (a : ℕ) → Rising a ds size
-    → ((q : ℕ) → a ≤ q → q < size → at range_moves rs q ≡ at range_moves ds q) → All (λ d. All (Beside d) rs) ds
+    → ((q : ℕ) → a ≤ q → q < size → at range_moves rs q ≡ at range_moves ds q) → AllByRecursion (λ d. AllByRecursion (Beside d) rs) ds
 all_beside rs size h p [] a g e = tt
 all_beside rs size h p (d ∷ ds) a g e =
     let low = g.0 in

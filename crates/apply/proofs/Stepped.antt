@@ -1,7 +1,7 @@
 -- The bytes of an image after steps whose ranges lie in it. Rests on the laws of images, and on what records give a position.
 use Rattle.std.proofs.Common.{◌≡◌, ℕ, ◌+◌, ◌-◌, ◌<◌, ◌≤◌, ◌&&◌, ltb, leb, List, [], ◌∷◌, map, length, get_or, replicate, Some, None, Option, sym, refl, ap, ◌∙◌, inl, inr, arith}
 use lib.ListN.{length-replicate}
-use Rattle.std.specs.List.{AllByRecursion as All}
+use Rattle.std.specs.List.{AllByRecursion}
 use Rattle.std.proofs.lemmas.List.{get_or-replicate}
 use Rattle.std.proofs.lemmas.Bool.{cases_Bool, cases_lt, lt-ltb, le-ltb, le-leb, lt-leb, cond-true, cond-false, and_from, and_left, and_right}
 use Rattle.overlay.specs.States.{over}
@@ -94,18 +94,18 @@ module _ (size : ℕ) where
   fits_at : (c : Content) (image : List ℕ) → length image ≡ size → Fits size c → Fits (length image) c
   fits_at c image e h = rw e h
 
-  pub all_called : (ss : List Step) (image : List ℕ) → length image ≡ size → All (StepFits size) ss → AllCalled image ss
+  pub all_called : (ss : List Step) (image : List ℕ) → length image ≡ size → AllByRecursion (StepFits size) ss → AllCalled image ss
   all_called [] image e h = tt
   all_called (s ∷ ss) image e h =
       let f = fits_at s.1 image e h.0 in
       (called s.1 image f, all_called ss (made_by s.1 image) (made_length s.1 image f ∙ e) h.1)
 
-  pub all_length : (ss : List Step) (image : List ℕ) → length image ≡ size → All (StepFits size) ss → length (made_by_all ss image) ≡ size
+  pub all_length : (ss : List Step) (image : List ℕ) → length image ≡ size → AllByRecursion (StepFits size) ss → length (made_by_all ss image) ≡ size
   all_length [] image e h = e
   all_length (s ∷ ss) image e h = all_length ss (made_by s.1 image) (made_length s.1 image (fits_at s.1 image e h.0) ∙ e) h.1
 
   -- the byte at a position after steps: the last record that covers it decides
-  pub all_get_d : (ss : List Step) (image : List ℕ) (p : ℕ) → length image ≡ size → All (StepFits size) ss
+  pub all_get_d : (ss : List Step) (image : List ℕ) (p : ℕ) → length image ≡ size → AllByRecursion (StepFits size) ss
       → get_or (made_by_all ss image) p 0 ≡ byte_over (get_or image p 0) (laid (records_of ss) p)
   all_get_d [] image p e h = refl
   all_get_d (s ∷ ss) image p e h =
@@ -115,7 +115,7 @@ module _ (size : ℕ) where
       ∙ byte_twice (get_or image p 0) (given s.1 p) (laid (records_of ss) p)
 
   -- where the steps give a position nothing, it keeps its byte, whatever the outcome
-  pub outcome_getD : (holds : Images) (ss : List Step) (image : List ℕ) (p : ℕ) → length image ≡ size → All (StepFits size) ss → laid (records_of ss) p ≡ None
+  pub outcome_getD : (holds : Images) (ss : List Step) (image : List ℕ) (p : ℕ) → length image ≡ size → AllByRecursion (StepFits size) ss → laid (records_of ss) p ≡ None
       → get_or (apply_steps holds image ss).1 p 0 ≡ get_or image p 0
   outcome_getD holds [] image p e h k = refl
   outcome_getD holds (s ∷ ss) image p e h k =

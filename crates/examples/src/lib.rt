@@ -3,9 +3,9 @@
 #![tactic(auto)]
 
 ghost use Rattle.examples.specs.Examples.{examples, Holds};
-ghost use Rattle.std.specs.List.{AllByRecursion as All};
+ghost use Rattle.std.specs.List.{AllByRecursion};
 
 // Every worked example holds.
 pub fn worked_examples()
-    ensures { All Holds examples }
+    ensures { AllByRecursion Holds examples }
 {}

@@ -1,6 +1,6 @@
 -- What a sound list of records means can be expressed. Assumes nothing.
 use Rattle.std.proofs.Common.{◌≡◌, ℕ, ◌+◌, ◌*◌, ◌^◌, ◌<◌, ◌≤◌, List, [], ◌∷◌, ◌++◌, length, sym, refl, ap, ◌∙◌, subst, arith, length-append}
-use Rattle.std.specs.List.{AllByRecursion as All}
+use Rattle.std.specs.List.{AllByRecursion}
 use Rattle.overlay.specs.declared.payloads.Side.TheVariants.{Later}
 use Rattle.stream.specs.Records.{Content, from_name, to_name, image_size, data_at, zeros_at, header, encoded, encodings, encoded_stream}
 use Rattle.stream.specs.Places.{from_of, to_of, size_in}
@@ -15,7 +15,7 @@ use Rattle.join.proofs.Payloads.{length_cells}
 use Rattle.join.proofs.Fewest.{few_ranges}
 
 -- metadata is short
-meta_length : (ms : List Content) → All GoodMeta ms → length (encodings ms) ≤ 69 * froms ms + 69 * tos ms + 9 * sizes ms
+meta_length : (ms : List Content) → AllByRecursion GoodMeta ms → length (encodings ms) ≤ 69 * froms ms + 69 * tos ms + 9 * sizes ms
 meta_length [] g = omega arith
 meta_length (from_name n ∷ ms) g = omega (arith, length-append (encoded (from_name n)) (encodings ms), meta_length ms g.1, g.0.1)
 meta_length (to_name n ∷ ms) g = omega (arith, length-append (encoded (to_name n)) (encodings ms), meta_length ms g.1, g.0.1)
@@ -68,7 +68,7 @@ data_to (data_at o bs ∷ ds) size end before r = data_to ds size (o + length bs
 data_to (zeros_at o n ∷ ds) size end before r = data_to ds size (o + n) before r.3
 
 module _ (ds : List Content) (size end : ℕ) (r : Rising size end ds) where
-  from_good : (ms : List Content) (before : List ℕ) → All GoodMeta ms → GoodFrom before → GoodFrom (from_of before (ms ++ ds))
+  from_good : (ms : List Content) (before : List ℕ) → AllByRecursion GoodMeta ms → GoodFrom before → GoodFrom (from_of before (ms ++ ds))
   from_good [] before g h = subst GoodFrom (sym (data_from ds size end before r)) h
   from_good (from_name n ∷ ms) before g h = from_good ms n g.1 (good_from n g.0)
   from_good (to_name n ∷ ms) before g h = from_good ms before g.1 h
@@ -76,7 +76,7 @@ module _ (ds : List Content) (size end : ℕ) (r : Rising size end ds) where
   from_good (data_at o bs ∷ ms) before g h = absurd g.0
   from_good (zeros_at o n ∷ ms) before g h = absurd g.0
 
-  to_stays : (ms : List Content) (before : List ℕ) → All GoodMeta ms → GoodName before → GoodName (to_of before (ms ++ ds))
+  to_stays : (ms : List Content) (before : List ℕ) → AllByRecursion GoodMeta ms → GoodName before → GoodName (to_of before (ms ++ ds))
   to_stays [] before g h = subst GoodName (sym (data_to ds size end before r)) h
   to_stays (from_name n ∷ ms) before g h = to_stays ms before g.1 h
   to_stays (to_name n ∷ ms) before g h = to_stays ms n g.1 g.0
@@ -84,7 +84,7 @@ module _ (ds : List Content) (size end : ℕ) (r : Rising size end ds) where
   to_stays (data_at o bs ∷ ms) before g h = absurd g.0
   to_stays (zeros_at o n ∷ ms) before g h = absurd g.0
 
-  to_good : (ms : List Content) (before : List ℕ) → All GoodMeta ms → tos ms ≡ 1 → GoodName (to_of before (ms ++ ds))
+  to_good : (ms : List Content) (before : List ℕ) → AllByRecursion GoodMeta ms → tos ms ≡ 1 → GoodName (to_of before (ms ++ ds))
   to_good [] before g h = absurd (omega arith)
   to_good (from_name n ∷ ms) before g h = to_good ms before g.1 h
   to_good (to_name n ∷ ms) before g h = to_stays ms n g.1 g.0

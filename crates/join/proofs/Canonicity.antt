@@ -1,6 +1,6 @@
 -- A sound stream is canonical exactly if its metadata lie in order and it has the canonical length. Assumes nothing.
 use Rattle.std.proofs.Common.{◌≡◌, ℕ, ◌+◌, ◌-◌, ◌^◌, ◌<◌, ◌≤◌, Bool, true, false, ◌&&◌, eqb, List, [], ◌∷◌, ◌++◌, map, length, Some, Ok, sym, refl, ap, ◌∙◌, subst, arith, length-drop, length-take}
-use Rattle.std.specs.List.{AllByRecursion as All}
+use Rattle.std.specs.List.{AllByRecursion}
 use Rattle.std.proofs.lemmas.List.{length-append}
 use Rattle.std.proofs.lemmas.Bool.{and_parts, and_from, eqb-true, eq-eqb}
 use Rattle.overlay.specs.declared.runs.Run.{Run}
@@ -53,7 +53,7 @@ data_only (image_size n ∷ ds) size end r = absurd r
 data_only (data_at o bs ∷ ds) size end r = ap (λ v. data_at o bs ∷ v) (data_only ds size (o + length bs) r.3)
 data_only (zeros_at o n ∷ ds) size end r = ap (λ v. zeros_at o n ∷ v) (data_only ds size (o + n) r.3)
 
-data_behind : (ms ds : List Content) → All GoodMeta ms → data_of (ms ++ ds) ≡ data_of ds
+data_behind : (ms ds : List Content) → AllByRecursion GoodMeta ms → data_of (ms ++ ds) ≡ data_of ds
 data_behind [] ds g = refl
 data_behind (from_name n ∷ ms) ds g = data_behind ms ds g.1
 data_behind (to_name n ∷ ms) ds g = data_behind ms ds g.1

@@ -1,7 +1,7 @@
 -- The canonical records of a difference are sound, and mean the difference. Assumes nothing.
 use Rattle.std.proofs.Common.{◌≡◌, ℕ, ◌+◌, ◌-◌, ◌^◌, ◌<◌, ◌≤◌, List, [], ◌∷◌, ◌++◌, map, length, get_or, take, drop, Some, None, Ok, Option, sym, refl, ap, ◌∙◌, subst, ⊎_elim, arith, length-drop, length-take}
 use Rattle.fault.specs.Fault.{then}
-use Rattle.std.specs.List.{AllByRecursion as All, range_with_len}
+use Rattle.std.specs.List.{AllByRecursion, range_with_len}
 use Rattle.std.specs.Option.{option_map}
 use Rattle.std.proofs.lemmas.List.{length-map, get_or-map, get_or-take, get_or-drop, ext_get_or}
 use Rattle.std.proofs.lemmas.List.FromFn.{length-map-range_with_len, get_or-map-range_with_len}
@@ -31,7 +31,7 @@ use Rattle.join.proofs.Records.{ranges_runs, ranges_rise}
 use Rattle.join.proofs.Readings.{difference_same, meaning_ok}
 
 -- the metadata of a canonical stream
-good_metas : (from to : List ℕ) (n : ℕ) → GoodFrom from → GoodName to → n ≤ 2 ^ 40 → All GoodMeta (metas from to n)
+good_metas : (from to : List ℕ) (n : ℕ) → GoodFrom from → GoodName to → n ≤ 2 ^ 40 → AllByRecursion GoodMeta (metas from to n)
 good_metas [] to n f t s = (t, (s, tt))
 good_metas (b ∷ bs) to n f t s = (f, (t, (s, tt)))
 

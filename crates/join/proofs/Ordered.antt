@@ -1,6 +1,6 @@
 -- The tags of a sound stream tell whether its metadata lie in the canonical order. Assumes nothing.
 use Rattle.std.proofs.Common.{◌≡◌, ℕ, ◌+◌, ◌-◌, ◌≤◌, true, List, [], ◌∷◌, ◌++◌, length, get_or, sym, refl, ap, ◌∙◌, subst, arith}
-use Rattle.std.specs.List.{AllByRecursion as All}
+use Rattle.std.specs.List.{AllByRecursion}
 use Rattle.std.proofs.lemmas.List.{append_assoc, get_or-append_right, get_or-append-add}
 use Rattle.std.proofs.lemmas.Bool.{and_parts, and_from, eqb-true, eq-eqb}
 use Rattle.stream.specs.Bytes.{le_bytes}
@@ -15,7 +15,7 @@ use Rattle.join.proofs.Accepted.{data_from, data_to}
 abbrev first : List Content → List ℕ → ℕ
 first cs tail = get_or (encodings cs ++ tail) 0 0
 
-none_left : (ms : List Content) → All GoodMeta ms → froms ms + tos ms + sizes ms ≡ 0 → ms ≡ []
+none_left : (ms : List Content) → AllByRecursion GoodMeta ms → froms ms + tos ms + sizes ms ≡ 0 → ms ≡ []
 none_left [] g h = refl
 none_left (from_name n ∷ ms) g h = absurd (omega arith)
 none_left (to_name n ∷ ms) g h = absurd (omega arith)
@@ -23,7 +23,7 @@ none_left (image_size n ∷ ms) g h = absurd (omega arith)
 none_left (data_at o bs ∷ ms) g h = absurd g.0
 none_left (zeros_at o n ∷ ms) g h = absurd g.0
 
-size_left : (ms : List Content) → All GoodMeta ms → froms ms + tos ms ≡ 0 → sizes ms ≡ 1 → (n : ℕ) × (ms ≡ image_size n ∷ [])
+size_left : (ms : List Content) → AllByRecursion GoodMeta ms → froms ms + tos ms ≡ 0 → sizes ms ≡ 1 → (n : ℕ) × (ms ≡ image_size n ∷ [])
 size_left [] g h s = absurd (omega arith)
 size_left (from_name n ∷ ms) g h s = absurd (omega arith)
 size_left (to_name n ∷ ms) g h s = absurd (omega arith)
@@ -32,7 +32,7 @@ size_left (data_at o bs ∷ ms) g h s = absurd g.0
 size_left (zeros_at o n ∷ ms) g h s = absurd g.0
 
 -- without f, and with a t first: t and s
-to_first : (ms : List Content) (tail : List ℕ) → All GoodMeta ms → froms ms ≡ 0 → tos ms ≡ 1 → sizes ms ≡ 1 → first ms tail ≡ 116
+to_first : (ms : List Content) (tail : List ℕ) → AllByRecursion GoodMeta ms → froms ms ≡ 0 → tos ms ≡ 1 → sizes ms ≡ 1 → first ms tail ≡ 116
     → (to : List ℕ) × (n : ℕ) × (ms ≡ to_name to ∷ (image_size n ∷ []))
 to_first [] tail g f t s e = absurd (omega arith)
 to_first (from_name n ∷ ms) tail g f t s e = absurd (omega arith)
@@ -43,7 +43,7 @@ to_first (image_size n ∷ ms) tail g f t s e = absurd (omega arith)
 to_first (data_at o bs ∷ ms) tail g f t s e = absurd g.0
 to_first (zeros_at o n ∷ ms) tail g f t s e = absurd g.0
 
-from_first : (ms : List Content) (tail : List ℕ) → All GoodMeta ms → tos ms ≡ 1 → first ms tail ≡ 102
+from_first : (ms : List Content) (tail : List ℕ) → AllByRecursion GoodMeta ms → tos ms ≡ 1 → first ms tail ≡ 102
     → (name : List ℕ) × (more : List Content) × (ms ≡ from_name name ∷ more)
 from_first [] tail g t e = absurd (omega arith)
 from_first (from_name n ∷ ms) tail g t e = (n, ms, refl)
@@ -54,7 +54,7 @@ from_first (zeros_at o n ∷ ms) tail g t e = absurd g.0
 
 -- the from name behind metadata
 module _ (ds : List Content) (size end : ℕ) (r : Rising size end ds) where
-  from_stays : (ms : List Content) (name : List ℕ) → All GoodMeta ms → 1 ≤ length name → 1 ≤ length (from_of name (ms ++ ds))
+  from_stays : (ms : List Content) (name : List ℕ) → AllByRecursion GoodMeta ms → 1 ≤ length name → 1 ≤ length (from_of name (ms ++ ds))
   from_stays [] name g h = subst (λ v. 1 ≤ length v) (sym (data_from ds size end name r)) h
   from_stays (from_name n ∷ ms) name g h = from_stays ms n g.1 g.0.0
   from_stays (to_name n ∷ ms) name g h = from_stays ms name g.1 h
@@ -62,7 +62,7 @@ module _ (ds : List Content) (size end : ℕ) (r : Rising size end ds) where
   from_stays (data_at o bs ∷ ms) name g h = absurd g.0
   from_stays (zeros_at o n ∷ ms) name g h = absurd g.0
 
-  no_from : (ms : List Content) (name : List ℕ) → All GoodMeta ms → length (from_of name (ms ++ ds)) ≡ 0 → froms ms ≡ 0
+  no_from : (ms : List Content) (name : List ℕ) → AllByRecursion GoodMeta ms → length (from_of name (ms ++ ds)) ≡ 0 → froms ms ≡ 0
   no_from [] name g h = refl
   no_from (from_name n ∷ ms) name g h = absurd (omega (arith, from_stays ms n g.1 g.0.0))
   no_from (to_name n ∷ ms) name g h = no_from ms name g.1 h
@@ -70,7 +70,7 @@ module _ (ds : List Content) (size end : ℕ) (r : Rising size end ds) where
   no_from (data_at o bs ∷ ms) name g h = absurd g.0
   no_from (zeros_at o n ∷ ms) name g h = absurd g.0
 
-  from_kept : (ms : List Content) (name : List ℕ) → All GoodMeta ms → froms ms ≡ 0 → from_of name (ms ++ ds) ≡ name
+  from_kept : (ms : List Content) (name : List ℕ) → AllByRecursion GoodMeta ms → froms ms ≡ 0 → from_of name (ms ++ ds) ≡ name
   from_kept [] name g h = data_from ds size end name r
   from_kept (from_name n ∷ ms) name g h = absurd (omega arith)
   from_kept (to_name n ∷ ms) name g h = from_kept ms name g.1 h
@@ -109,7 +109,7 @@ record Metas (ms : List Content) : Type 0 where
   size : ℕ
   whole : ms ≡ metas from to size
 
-module _ (ms ds : List Content) (xs : List ℕ) (size end : ℕ) (r : Rising size end ds) (g : All GoodMeta ms) (f : froms ms ≤ 1) (t : tos ms ≡ 1) (s : sizes ms ≡ 1)
+module _ (ms ds : List Content) (xs : List ℕ) (size end : ℕ) (r : Rising size end ds) (g : AllByRecursion GoodMeta ms) (f : froms ms ≤ 1) (t : tos ms ≡ 1) (s : sizes ms ≡ 1)
     (e : xs ≡ encoded_stream (ms ++ ds)) where
   parted : (cs : List Content) → encodings (cs ++ ds) ++ tail ≡ encodings cs ++ (encodings ds ++ tail)
   parted cs = ap (λ v. v ++ tail) (encodings_append cs ds) ∙ append_assoc (encodings cs) (encodings ds) tail
@@ -134,7 +134,7 @@ module _ (ms ds : List Content) (xs : List ℕ) (size end : ℕ) (r : Rising siz
       let name = l.0 in
       let more = l.1 in
       let m : ms ≡ from_name name ∷ more = l.2 in
-      let good : All GoodMeta (from_name name ∷ more) = subst (All GoodMeta) m g in
+      let good : AllByRecursion GoodMeta (from_name name ∷ more) = subst (AllByRecursion GoodMeta) m g in
       let none : froms more ≡ 0 = omega (arith, ap froms m) in
       let is : name ≡ b ∷ bs = sym (from_kept ds size end r more name good.1 none) ∙ sym (ap (λ v. from_of [] (v ++ ds)) m) ∙ h in
       let k = to_first more (encodings ds ++ tail) good.1 none (sym (ap tos m) ∙ t) (sym (ap sizes m) ∙ s)

@@ -2,7 +2,7 @@
 use Rattle.std.proofs.Common.{◌≡◌, ℕ, zero, suc, ◌+◌, ◌-◌, ◌<◌, ◌≤◌, List, [], ◌∷◌, map, length, get_or, Some, None, Option, sym, refl, ap, ◌∙◌, subst, inl, inr, arith}
 use lib.ListN.{length-map}
 use Rattle.std.specs.Option.{option_map}
-use Rattle.std.specs.List.{AllByRecursion as All}
+use Rattle.std.specs.List.{AllByRecursion}
 use Rattle.std.proofs.lemmas.List.{get_or_past}
 use Rattle.std.proofs.lemmas.Bool.{cases_lt}
 use Rattle.overlay.specs.declared.runs.Run.{Run}
@@ -60,7 +60,7 @@ module _ (kinds : ℕ → Option RangeMark) where
       ]
 
   each_longest : (rs : List (Run RangeMark)) (a n : ℕ) → Rising a rs n → Apart range_moves rs → ((p : ℕ) → a ≤ p → kinds p ≡ runs_at rs p) → Starts rs
-      → All (LongestRun kinds) rs
+      → AllByRecursion (LongestRun kinds) rs
   each_longest [] a n h p k s = tt
   each_longest (r ∷ rs) a n h p k s =
       let low = h.0 in
@@ -73,7 +73,7 @@ module _ (kinds : ℕ → Option RangeMark) where
         each_longest rs (ends r) n h.2 p.1 (λ q l. here q (omega arith) ∙ past r rs q l) (starts_next r rs n h.1 h.2 p here),
       )
 
-missed : (rs : List (Run RangeMark)) (p : ℕ) → All (Missed p) rs → runs_at rs p ≡ None
+missed : (rs : List (Run RangeMark)) (p : ℕ) → AllByRecursion (Missed p) rs → runs_at rs p ≡ None
 missed [] p h = refl
 missed (r ∷ rs) p h =
     elim h.0 [

@@ -1,7 +1,7 @@
 -- What the list of a stream shows, in the subject's words: the longest runs, and nothing of the payload. Rests on Lists and on reading.
 use Rattle.std.specs.Prelude.{◌≡◌, ℕ, ◌+◌, ◌^◌, ◌<◌, ◌≤◌, ◌⊎◌, List, [], ◌∷◌, ◌++◌, length, Some, None, Option, ◌≢◌, slice_index_or}
 use Rattle.std.specs.Option.{option_map}
-use Rattle.std.specs.List.{AllByRecursion as All}
+use Rattle.std.specs.List.{AllByRecursion}
 use Rattle.overlay.specs.declared.runs.Run.{Run}
 use Rattle.overlay.specs.declared.ranges.RangeMark.{RangeMark}
 use Rattle.overlay.specs.Runs.{ends, Rising}
@@ -29,8 +29,8 @@ Missed p r = (p < r.offset) ⊎ (ends r ≤ p)
 -- the longest runs of a difference, in rising order; a position in none of them is kept
 pub record LongestRuns (ds : List (Option Cell)) (rs : List (Run RangeMark)) : Type 0 where
   pub rising : Rising 0 rs (length ds)
-  pub longest : All (LongestRun (kind_at ds)) rs
-  pub elsewhere : (p : ℕ) → All (Missed p) rs → kind_at ds p ≡ None
+  pub longest : AllByRecursion (LongestRun (kind_at ds)) rs
+  pub elsewhere : (p : ℕ) → AllByRecursion (Missed p) rs → kind_at ds p ≡ None
 
 -- the ranges of a difference are its longest runs
 abbrev pub RangesAreLongest : Type 0

@@ -1,7 +1,7 @@
 -- Laws of pages: their lengths, and where a byte lies. Rests on the definition of pages.
 use Rattle.std.specs.Prelude.{◌≡◌, ℕ, zero, suc, ◌+◌, ◌-◌, ◌*◌, ◌/◌, ◌%◌, ◌<◌, ◌≤◌, min, ◌&&◌, List, [], ◌∷◌, length, take, drop, nat_le, slice_index, refl}
 use Rattle.std.proofs.Common.{sym, ◌∙◌, ⊎_elim, arith, length-append, length-take, length-drop}
-use Rattle.std.specs.List.{flat_map, AllByRecursion as All}
+use Rattle.std.specs.List.{flat_map, AllByRecursion}
 use Rattle.std.proofs.lemmas.List.{get_or_append_left, get_or-append_right, get_or-replicate, get_or-take, get_or-drop, ext_get_or, length-replicate}
 use Rattle.std.proofs.ByRecursion.{All-from_get_or}
 use Rattle.std.proofs.lemmas.Bool.{cases_lt}
@@ -12,12 +12,12 @@ pub length_page : (pool : List ℕ) (k : ℕ) → k ≤ pool_pages pool → leng
 length_page pool zero h = length-replicate {A = ℕ} 256 0
 length_page pool (suc k) h = simp (length-take, length-drop) (omega arith)
 
-pub length_pages : (pool ks : List ℕ) → All (λ k. k ≤ pool_pages pool) ks → length (flat_map (page_at pool) ks) ≡ 256 * length ks
+pub length_pages : (pool ks : List ℕ) → AllByRecursion (λ k. k ≤ pool_pages pool) ks → length (flat_map (page_at pool) ks) ≡ 256 * length ks
 length_pages pool [] h = refl
 length_pages pool (k ∷ ks) h = simp length-append (omega (arith, length_page pool k h.0, length_pages pool ks h.1))
 
 -- where a position's byte lies
-pub getD_pages : (pool ks : List ℕ) (p : ℕ) → All (λ k. k ≤ pool_pages pool) ks → p < 256 * length ks → slice_index (flat_map (page_at pool) ks) p ≡ slice_index (page_at pool (slice_index ks (p / 256))) (p % 256)
+pub getD_pages : (pool ks : List ℕ) (p : ℕ) → AllByRecursion (λ k. k ≤ pool_pages pool) ks → p < 256 * length ks → slice_index (flat_map (page_at pool) ks) p ≡ slice_index (page_at pool (slice_index ks (p / 256))) (p % 256)
 getD_pages pool [] p h l = absurd (omega arith)
 getD_pages pool (k ∷ ks) p h l =
     let long = length_page pool k h.0 in
@@ -34,7 +34,7 @@ getD_pages pool (k ∷ ks) p h l =
     rw (q, r) more)
     (cases_lt p 256)
 
-pub all_mapped : (table pool : List ℕ) → Mapped table pool → All (λ k. k ≤ pool_pages pool) (take 65536 table)
+pub all_mapped : (table pool : List ℕ) → Mapped table pool → AllByRecursion (λ k. k ≤ pool_pages pool) (take 65536 table)
 all_mapped table pool h =
     All-from_get_or (λ k. k ≤ pool_pages pool) (take 65536 table) 0
     (λ i l. let short = length-take 65536 table in let low : i < 65536 = omega arith in rw get_or-take (h i (omega arith)))
@@ -57,12 +57,12 @@ read_whole image buf offset count e h each =
     (λ i l. let low : i < count = omega arith in each i low ∙ sym (get_or-take count (drop offset image) i 0 low ∙ get_or-drop offset image i 0))
 
 -- a map of zeros
-pub all_clear : (table : List ℕ) → ((i : ℕ) → i < places table → slice_index table i ≡ 0) → All (λ k. k ≡ 0) (take 65536 table)
+pub all_clear : (table : List ℕ) → ((i : ℕ) → i < places table → slice_index table i ≡ 0) → AllByRecursion (λ k. k ≡ 0) (take 65536 table)
 all_clear table h =
     All-from_get_or (λ k. k ≡ 0) (take 65536 table) 0
     (λ i l. let short = length-take 65536 table in let low : i < 65536 = omega arith in rw get_or-take (h i (omega arith)))
 
-pub pages_none : (pool ks : List ℕ) (p : ℕ) → All (λ k. k ≡ 0) ks → slice_index (flat_map (page_at pool) ks) p ≡ 0
+pub pages_none : (pool ks : List ℕ) (p : ℕ) → AllByRecursion (λ k. k ≡ 0) ks → slice_index (flat_map (page_at pool) ks) p ≡ 0
 pages_none pool [] p h = refl
 pages_none pool (k ∷ ks) p h =
     let long : length (page_at pool k) ≡ 256 = length_page pool k (omega (arith, h.0)) in

@@ -1,6 +1,6 @@
 -- Differences applied in order; stretches unite; the overlay of a stretch's ranges are the ranges of its join.
 use Rattle.std.proofs.Common.{◌≡◌, ℕ, ◌^◌, ◌<◌, List, [], ◌∷◌, ◌++◌, length, sym, refl, ap, ◌∙◌, arith}
-use Rattle.std.specs.List.{AllByRecursion as All}
+use Rattle.std.specs.List.{AllByRecursion}
 use Rattle.std.proofs.lemmas.List.{map-append}
 use Rattle.overlay.proofs.Overlaid.{overlaid_length}
 use Rattle.stream.specs.Meaning.{zeroed, ranges}
@@ -34,7 +34,7 @@ Small d = length d.cells < 2 ^ 64
 pub joined_small : (d e : Difference) → Small e → Small (joined d e)
 joined_small d e h = omega (arith, overlaid_length zeroed d.cells e.cells)
 
-pub overlay_is : (d : Difference) (es : List Difference) → Small d → All Small es → overlay_from d es ≡ ranges (joined_all d es).cells
+pub overlay_is : (d : Difference) (es : List Difference) → Small d → AllByRecursion Small es → overlay_from d es ≡ ranges (joined_all d es).cells
 overlay_is d [] h k = refl
 overlay_is d (e ∷ es) h k =
     ap (λ rs. overlay_all rs (length e.cells) es) (sym (ranges_overlaid d.cells e.cells h k.0))

@@ -1,6 +1,6 @@
 -- What holds of shelf, bytes, image and ledger between two calls, and that each call keeps it.
 use Rattle.std.proofs.Common.{◌≡◌, ℕ, ◌+◌, ◌≤◌, List, [], ◌∷◌, ◌++◌, map, length, take, drop, Ok, sym, ap, ◌∙◌, subst, ap₂, arith}
-use Rattle.std.specs.List.{flat_map as strung, AllByRecursion as All}
+use Rattle.std.specs.List.{flat_map as strung, AllByRecursion}
 use Rattle.std.proofs.lemmas.List.{append_assoc, append-nil, map-append, length-map, length_push, flat_map_more, take-append-drop}
 use Rattle.std.proofs.ByRecursion.{All-append, All-push}
 use Rattle.stream.specs.Meaning.{ranges}
@@ -23,8 +23,8 @@ use Rattle.replay.proofs.Stretched.{united_is, all_split, applied_united, stream
 -- `first` is the first image, `settled` and `ss` are the ledger's, `acc` the accepted streams
 pub record Kept (first : List ℕ) (settled : List (List ℕ)) (ss : List Stretch) (acc : List (List ℕ)) (t : Table) (bytes image : List ℕ) : Type 0 where
   pub stands : Stands (map stretch_join ss) t bytes
-  pub good : All GoodStretch ss
-  pub streams : All Meant acc
+  pub good : AllByRecursion GoodStretch ss
+  pub streams : AllByRecursion Meant acc
   pub cut : settled ++ strung streams_of ss ≡ acc
   pub back : applied_all (map stretch_join ss) image ≡ applied_all (differences_in acc) first
 
@@ -76,8 +76,8 @@ module _ (first : List ℕ) (settled : List (List ℕ)) (ss : List Stretch) (acc
     two_joins : map stretch_join ss ≡ before ++ (stretch_join two.here ∷ stretch_join two.next ∷ behind)
     two_joins = ap (map stretch_join) two.whole ∙ map-append stretch_join two.before (two.here ∷ two.next ∷ two.behind)
 
-    two_good : All GoodStretch two.before × All GoodStretch (two.here ∷ two.next ∷ two.behind)
-    two_good = all_split GoodStretch two.before (two.here ∷ two.next ∷ two.behind) (subst (All GoodStretch) two.whole h.good)
+    two_good : AllByRecursion GoodStretch two.before × AllByRecursion GoodStretch (two.here ∷ two.next ∷ two.behind)
+    two_good = all_split GoodStretch two.before (two.here ∷ two.next ∷ two.behind) (subst (AllByRecursion GoodStretch) two.whole h.good)
 
     count : length before ≡ i
     count = length-map two.before stretch_join ∙ two.count
@@ -117,7 +117,7 @@ module _ (first : List ℕ) (settled : List (List ℕ)) (ss : List Stretch) (acc
     pub join_kept : Kept first settled (united both i ss) (acc ++ []) (unite_rows t i (long j)) (replaced t.fill (take k bytes) (row_at t i).place (end_of (row_at t (i + 1))) (canonical j) ++ drop k bytes) image
     join_kept = rw (append-nil acc) (record {
       stands = join_stands;
-      good = subst (All GoodStretch) (sym united_whole) (All-append GoodStretch two.before (both two.here two.next ∷ two.behind) two_good.0 (good_both, two_good.1.1.1));
+      good = subst (AllByRecursion GoodStretch) (sym united_whole) (All-append GoodStretch two.before (both two.here two.next ∷ two.behind) two_good.0 (good_both, two_good.1.1.1));
       streams = h.streams;
       cut = ap (λ x. settled ++ x) (streams_united i ss) ∙ h.cut;
       back = applied_united i ss image ∙ h.back;

@@ -3,7 +3,7 @@ use Rattle.std.proofs.Common.{◌≡◌, ℕ, Bool, true, false, List, [], ◌�
 use mathlib.Core.List.{map-map}
 use Rattle.fault.specs.Fault.{then}
 use Rattle.fault.specs.declared.kinds.Fault.{Fault}
-use Rattle.std.specs.List.{AllByRecursion as All}
+use Rattle.std.specs.List.{AllByRecursion}
 use Rattle.std.proofs.lemmas.List.{append_assoc, append-nil}
 use Rattle.std.proofs.lemmas.Bool.{false≢true}
 use Rattle.store.specs.Stores.{Images}
@@ -41,11 +41,11 @@ is_list (settle k) = false
 is_list (list k i text) = true
 
 -- the streams of good stretches: what they mean, and their ranges
-means_joins : (ss : List Stretch) → All GoodStretch ss → differences_in (map stretch_stream ss) ≡ map stretch_join ss
+means_joins : (ss : List Stretch) → AllByRecursion GoodStretch ss → differences_in (map stretch_stream ss) ≡ map stretch_join ss
 means_joins [] g = refl
 means_joins (s ∷ ss) g = cons (ap meant (expressed_meaning (stretch_join s) g.0.join)) (means_joins ss g.1)
 
-ranges_overlay : (ss : List Stretch) → All GoodStretch ss → map stream_ranges (map stretch_stream ss) ≡ map (λ s. Ok (stretch_overlay s)) ss
+ranges_overlay : (ss : List Stretch) → AllByRecursion GoodStretch ss → map stream_ranges (map stretch_stream ss) ≡ map (λ s. Ok (stretch_overlay s)) ss
 ranges_overlay [] g = refl
 ranges_overlay (s ∷ ss) g =
     cons (ranges_are (stretch_stream s) (stretch_join s) (expressed_meaning (stretch_join s) g.0.join) ∙ ap Ok (sym (overlay_good s g.0)))

@@ -1,7 +1,7 @@
 -- What an entry reads as between two calls, and what a list call that was not refused shows: the join and the overlay of the entry's stretch.
 use Rattle.std.proofs.Common.{◌≡◌, ℕ, ◌<◌, ◌≤◌, List, [], ◌∷◌, ◌++◌, map, length, get_or, take, drop, Ok, Result, sym, ap, ◌∙◌, subst, ap₂, arith}
 use Rattle.fault.specs.declared.kinds.Fault.{Fault}
-use Rattle.std.specs.List.{AllByRecursion as All}
+use Rattle.std.specs.List.{AllByRecursion}
 use Rattle.std.proofs.lemmas.List.{map-append, length-map, get_or_at, get_or-map}
 use Rattle.std.proofs.lemmas.Bool.{cond-false}
 use Rattle.listing.specs.Text.{listing}
@@ -32,7 +32,7 @@ module _ (first : List ℕ) (settled : List (List ℕ)) (ss : List Stretch) (acc
   at = around ss i there
 
   good : GoodStretch at.here
-  good = (all_split GoodStretch at.before (at.here ∷ at.behind) (subst (All GoodStretch) at.whole h.good)).1.0
+  good = (all_split GoodStretch at.before (at.here ∷ at.behind) (subst (AllByRecursion GoodStretch) at.whole h.good)).1.0
 
   reads : entry t (take k bytes) i ≡ Ok (stretch_join at.here)
   reads =

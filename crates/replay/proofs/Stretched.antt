@@ -1,6 +1,6 @@
 -- Stretches that are united: their streams, their joins, and what they come to on an image.
 use Rattle.std.proofs.Common.{◌≡◌, ℕ, zero, suc, List, [], ◌∷◌, ◌++◌, map, length, Ok, sym, refl, ap, ◌∙◌, arith}
-use Rattle.std.specs.List.{flat_map as strung, AllByRecursion as All}
+use Rattle.std.specs.List.{flat_map as strung, AllByRecursion}
 use Rattle.std.proofs.lemmas.List.{append_assoc}
 use Rattle.std.proofs.ByRecursion.{All-weaker, All-map}
 use Rattle.stream.specs.Meaning.{ranges}
@@ -17,7 +17,7 @@ united_is f [] x y bs = refl
 united_is f (p ∷ []) x y bs = refl
 united_is f (p ∷ q ∷ qs) x y bs = ap (λ zs. p ∷ zs) (united_is f (q ∷ qs) x y bs)
 
-pub all_split : {X : Type 0} (P : X → Type 0) (xs ys : List X) → All P (xs ++ ys) → All P xs × All P ys
+pub all_split : {X : Type 0} (P : X → Type 0) (xs ys : List X) → AllByRecursion P (xs ++ ys) → AllByRecursion P xs × AllByRecursion P ys
 all_split P [] ys h = (tt, h)
 all_split P (x ∷ xs) ys h = let k = all_split P xs ys h.1 in ((h.0, k.0), k.1)
 
@@ -45,7 +45,7 @@ Meant stream = meaning stream ≡ Ok (difference_in stream)
 
 -- a stretch of such streams, whose join can be said
 pub record GoodStretch (s : Stretch) : Type 0 where
-  pub streams : All Meant (streams_of s)
+  pub streams : AllByRecursion Meant (streams_of s)
   pub join : Expressible (stretch_join s)
 
 small_stream : (stream : List ℕ) → Meant stream → Small (difference_in stream)

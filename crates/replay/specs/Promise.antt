@@ -3,7 +3,7 @@
 use Rattle.std.specs.Prelude.{◌≡◌, ℕ, ◌<◌, ◌≤◌, List, [], ◌∷◌, ◌++◌, map, length, take, drop, Ok, Err, slice_index_or}
 use Rattle.fault.specs.Fault.{fault}
 use Rattle.fault.specs.declared.kinds.Cause.TheVariants.{NoEntry}
-use Rattle.std.specs.List.{flat_map as strung, AllByRecursion as All}
+use Rattle.std.specs.List.{flat_map as strung, AllByRecursion}
 use Rattle.listing.specs.Text.{listing}
 use Rattle.store.specs.Stores.{Images}
 use Rattle.stream.specs.Difference.{meaning}
@@ -24,7 +24,7 @@ pub record Lists (l : Ledger) (i : ℕ) (text : List ℕ) (n : ℕ) (buffer : Li
 pub record ComesBack (first : List ℕ) (es : List Event) (w : World) : Type 0 where
   -- the base image comes back: the image with the shelf's streams applied in order is the first image with all accepted streams applied in order
   pub comes_back : applied_all (differences_in (shelf_streams w.table w.bytes)) w.image ≡ applied_all (differences_in (accepted (map fed es))) first
-  pub accepted_are_streams : All (λ stream. meaning stream ≡ Ok (difference_in stream)) (accepted (map fed es))
+  pub accepted_are_streams : AllByRecursion (λ stream. meaning stream ≡ Ok (difference_in stream)) (accepted (map fed es))
   -- the ledger cuts the accepted streams into those settled and a stretch for each shelf stream, which is the canonical join of its stretch, byte for byte
   pub cut : (ledger (map fed es)).settled ++ strung streams_of (ledger (map fed es)).stretches ≡ accepted (map fed es)
   pub canonical_joins : shelf_streams w.table w.bytes ≡ map stretch_stream (ledger (map fed es)).stretches

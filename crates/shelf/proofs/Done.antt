@@ -54,8 +54,8 @@ module _ (t : Table) (bytes : List ℕ) (i : ℕ) (work : List ℕ) where
       record {
         two = leb-false (length t.rows) (i + 1) c.0;
         reaches = ltb-false (length bytes) t.fill e.0;
-        fits = subst (λ m. m ≤ length work) count (ltb-false (length work) (length (canonical d)) fit.in-work);
-        room = subst (λ m. united_fill t i m ≤ length bytes) count fit.on-shelf;
+        fits = subst (λ m. m ≤ length work) count (ltb-false (length work) (length (canonical d)) fit.in_work);
+        room = subst (λ m. united_fill t i m ≤ length bytes) count fit.on_shelf;
         table = ap (unite_rows t i) (sym long) ∙ sym (ap (λ r. unless_refused r (λ xs. unite_rows t i (length xs)) t) a.1);
         bytes_are = ap (replaced t.fill bytes (row_at t i).place (end_of (row_at t (i + 1)))) front
             ∙ sym (ap (λ r. unless_refused r (λ xs. replaced t.fill bytes (row_at t i).place (end_of (row_at t (i + 1))) xs) bytes) a.1);

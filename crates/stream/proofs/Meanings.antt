@@ -1,7 +1,7 @@
 -- The runs that are gathered of a stream mean the difference of its records.
 use Rattle.std.proofs.Common.{◌≡◌, ℕ, ◌+◌, ◌-◌, ◌%◌, ◌^◌, ◌<◌, ◌≤◌, ◌&&◌, ltb, leb, List, [], ◌∷◌, ◌++◌, map, length, get_or, take, drop, Some, None, Option, sym, refl, ap, ◌∙◌, subst, ap₂, inl, inr, append_assoc, mod-eq_of_lt, arith, length-append, get_or-drop, get_or-take}
 use mathlib.Core.List.{map-map}
-use Rattle.std.specs.List.{range_with_len, AllByRecursion as All}
+use Rattle.std.specs.List.{range_with_len, AllByRecursion}
 use Rattle.std.specs.Option.{option_map}
 use Rattle.std.proofs.lemmas.List.{append-nil, take_at}
 use Rattle.std.proofs.lemmas.Bool.{cases_lt, lt-ltb, le-leb, le-ltb, lt-leb, cond-true, cond-false, and_from, and_left, and_right}
@@ -162,7 +162,7 @@ encodings_append (c ∷ ms) ds = ap (λ t. encoded c ++ t) (encodings_append ms 
 place_on : (place : ℕ) (c : Content) (ms : List Content) → (place + length (encoded c)) + length (encodings ms) ≡ place + length (encodings (c ∷ ms))
 place_on place c ms = omega (arith, length-append (encoded c) (encodings ms))
 
-runs_skip : (side : Side) (ms ds : List Content) (place : ℕ) → All GoodMeta ms → runs_of side place (ms ++ ds) ≡ runs_of side (place + length (encodings ms)) ds
+runs_skip : (side : Side) (ms ds : List Content) (place : ℕ) → AllByRecursion GoodMeta ms → runs_of side place (ms ++ ds) ≡ runs_of side (place + length (encodings ms)) ds
 runs_skip side [] ds place g = ap (λ v. runs_of side v ds) (omega arith)
 runs_skip side (from_name name ∷ ms) ds place g = runs_skip side ms ds _ g.1 ∙ ap (λ v. runs_of side v ds) (place_on place (from_name name) ms)
 runs_skip side (to_name name ∷ ms) ds place g = runs_skip side ms ds _ g.1 ∙ ap (λ v. runs_of side v ds) (place_on place (to_name name) ms)
@@ -170,7 +170,7 @@ runs_skip side (image_size n ∷ ms) ds place g = runs_skip side ms ds _ g.1 ∙
 runs_skip side (data_at o bytes ∷ ms) ds place g = absurd g.0
 runs_skip side (zeros_at o n ∷ ms) ds place g = absurd g.0
 
-laid_skip : (ms ds : List Content) (p : ℕ) → All GoodMeta ms → laid (ms ++ ds) p ≡ laid ds p
+laid_skip : (ms ds : List Content) (p : ℕ) → AllByRecursion GoodMeta ms → laid (ms ++ ds) p ≡ laid ds p
 laid_skip [] ds p g = refl
 laid_skip (from_name name ∷ ms) ds p g = over_none (laid (ms ++ ds) p) ∙ laid_skip ms ds p g.1
 laid_skip (to_name name ∷ ms) ds p g = over_none (laid (ms ++ ds) p) ∙ laid_skip ms ds p g.1
@@ -186,7 +186,7 @@ size_kept (image_size m ∷ ds) n size end r = absurd r
 size_kept (data_at o bytes ∷ ds) n size end r = size_kept ds n size (o + length bytes) r.3
 size_kept (zeros_at o m ∷ ds) n size end r = size_kept ds n size (o + m) r.3
 
-pub size_first : (ms ds : List Content) (n size end : ℕ) → All GoodMeta ms → Rising size end ds → size_in n (ms ++ ds) ≡ size_in n ms
+pub size_first : (ms ds : List Content) (n size end : ℕ) → AllByRecursion GoodMeta ms → Rising size end ds → size_in n (ms ++ ds) ≡ size_in n ms
 size_first [] ds n size end g r = size_kept ds n size end r
 size_first (from_name name ∷ ms) ds n size end g r = size_first ms ds n size end g.1 r
 size_first (to_name name ∷ ms) ds n size end g r = size_first ms ds n size end g.1 r
@@ -194,7 +194,7 @@ size_first (image_size m ∷ ms) ds n size end g r = size_first ms ds m size end
 size_first (data_at o bytes ∷ ms) ds n size end g r = absurd g.0
 size_first (zeros_at o m ∷ ms) ds n size end g r = absurd g.0
 
-pub size_small : (ms : List Content) (n : ℕ) → n ≤ 2 ^ 40 → All GoodMeta ms → size_in n ms ≤ 2 ^ 40
+pub size_small : (ms : List Content) (n : ℕ) → n ≤ 2 ^ 40 → AllByRecursion GoodMeta ms → size_in n ms ≤ 2 ^ 40
 size_small [] n h g = h
 size_small (from_name name ∷ ms) n h g = size_small ms n h g.1
 size_small (to_name name ∷ ms) n h g = size_small ms n h g.1
@@ -203,7 +203,7 @@ size_small (data_at o bytes ∷ ms) n h g = absurd g.0
 size_small (zeros_at o m ∷ ms) n h g = absurd g.0
 
 -- the runs of data records behind metadata
-data_stands : (side : Side) (ms ds : List Content) (xs : List ℕ) → All GoodMeta ms → Rising (size_in 0 ms) 0 ds → length ds ≤ 512
+data_stands : (side : Side) (ms ds : List Content) (xs : List ℕ) → AllByRecursion GoodMeta ms → Rising (size_in 0 ms) 0 ds → length ds ≤ 512
     → xs ≡ encoded_stream (ms ++ ds) → length xs < 2 ^ 64
     → StandsFor side xs (ms ++ ds) (gathered side none 12 (ms ++ ds)).runs (gathered side none 12 (ms ++ ds)).size
 unfolding cells

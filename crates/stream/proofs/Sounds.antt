@@ -1,5 +1,5 @@
 use Rattle.std.proofs.Common.{◌≡◌, ℕ, ◌+◌, ◌≤◌, Bool, true, false, List, [], ◌∷◌, ◌++◌, length, Ok, Err, Result, sym, refl, ap, ◌∙◌, subst, arith}
-use Rattle.std.specs.List.{AllByRecursion as All}
+use Rattle.std.specs.List.{AllByRecursion}
 use Rattle.stream.specs.Rule.{meta, from_rule, to_rule, size_rule, late_rule}
 use Rattle.stream.specs.Steps.{Pos}
 use Rattle.stream.specs.Records.{Content, from_name, to_name, image_size, data_at, zeros_at}
@@ -67,7 +67,7 @@ record Found (cs : List Content) (f t z : Bool) (size : ℕ) : Type 0 where
   metas : List Content
   datas : List Content
   whole : cs ≡ metas ++ datas
-  good : All GoodMeta metas
+  good : AllByRecursion GoodMeta metas
   one_from : num f + froms metas ≤ 1
   one_to : num t + tos metas ≡ 1
   one_size : num z + sizes metas ≡ 1
@@ -168,7 +168,7 @@ data_well (data_at o bs ∷ cs) p e r l =
 data_well (zeros_at o n ∷ cs) p e r l =
     (Data, e, (omega arith, r.1, r.2, r.0), data_well cs (moved p (zeros_at o n) Data) refl r.3 (omega arith))
 
-meta_well : (ms ds : List Content) (p : Pos) (f t z : Bool) → p.state ≡ meta f t z → p.count ≡ 0 → p.end ≡ 0 → All GoodMeta ms → num f + froms ms ≤ 1
+meta_well : (ms ds : List Content) (p : Pos) (f t z : Bool) → p.state ≡ meta f t z → p.count ≡ 0 → p.end ≡ 0 → AllByRecursion GoodMeta ms → num f + froms ms ≤ 1
     → num t + tos ms ≡ 1 → num z + sizes ms ≡ 1 → Rising (size_in p.size ms) 0 ds → length ds ≤ 512 → WellFormed p (ms ++ ds)
 meta_well [] ds p f true true e n l g a b c r k =
     let P : ℕ → Type 0 = λ v. Rising p.size v ds in

@@ -1,6 +1,6 @@
 -- What reading promises to the layers above, from what it answers.
 use Rattle.std.proofs.Common.{◌≡◌, ℕ, ◌+◌, ◌^◌, ◌<◌, ◌≤◌, List, [], ◌∷◌, ◌++◌, length, IfOk, Ok, Err, Result, sym, refl, ap, ◌∙◌, subst, arith, length-append}
-use Rattle.std.specs.List.{AllByRecursion as All}
+use Rattle.std.specs.List.{AllByRecursion}
 use Rattle.overlay.specs.declared.runs.Run.{Run}
 use Rattle.overlay.specs.declared.payloads.PayloadMark.{PayloadMark}
 use Rattle.overlay.specs.declared.payloads.Side.{Side}
@@ -27,7 +27,7 @@ Short (image_size n) = Unit {0}
 Short (data_at o bytes) = Unit {0}
 Short (zeros_at o n) = Unit {0}
 
-data_short : (ds : List Content) (size end : ℕ) → Rising size end ds → All Short ds
+data_short : (ds : List Content) (size end : ℕ) → Rising size end ds → AllByRecursion Short ds
 data_short [] size end r = tt
 data_short (from_name name ∷ ds) size end r = absurd r
 data_short (to_name name ∷ ds) size end r = absurd r
@@ -35,7 +35,7 @@ data_short (image_size n ∷ ds) size end r = absurd r
 data_short (data_at o bytes ∷ ds) size end r = (tt, data_short ds size (o + length bytes) r.3)
 data_short (zeros_at o n ∷ ds) size end r = (tt, data_short ds size (o + n) r.3)
 
-names_short : (ms ds : List Content) → All GoodMeta ms → All Short ds → All Short (ms ++ ds)
+names_short : (ms ds : List Content) → AllByRecursion GoodMeta ms → AllByRecursion Short ds → AllByRecursion Short (ms ++ ds)
 names_short [] ds g s = s
 names_short (from_name name ∷ ms) ds g s = (g.0.1, names_short ms ds g.1 s)
 names_short (to_name name ∷ ms) ds g s = (g.0.1, names_short ms ds g.1 s)
@@ -52,7 +52,7 @@ module _ (side : Side) (xs tail : List ℕ) where
       let i = length-append (encoded c) (encodings cs ++ tail) in
       record { inside = omega arith; short = s }
 
-  spans_in : (cs : List Content) (pre : List ℕ) (place : ℕ) (g : Gathered) → xs ≡ pre ++ (encodings cs ++ tail) → place ≡ length pre → All Short cs
+  spans_in : (cs : List Content) (pre : List ℕ) (place : ℕ) (g : Gathered) → xs ≡ pre ++ (encodings cs ++ tail) → place ≡ length pre → AllByRecursion Short cs
       → SpanIn xs g.from → SpanIn xs g.to → SpanIn xs (gathered side g place cs).from × SpanIn xs (gathered side g place cs).to
   spans_in [] pre place g e l s f t = (f, t)
   spans_in (from_name n ∷ cs) pre place g e l s f t =
@@ -85,7 +85,7 @@ told_ok side xs s out b small room few e =
     let P : List ℕ → Type 0 = λ ys. Tells cs ys (gathered_of s out) in
     let Q : Gathered → Type 0 = λ g. Tells cs (encoded_stream cs) g in
     let S : Gathered → Type 0 = λ g. StandsFor side xs cs g.runs g.size in
-    let sh : All Short cs = subst (All Short) (sym snd.whole) (names_short snd.metas snd.datas snd.good (data_short snd.datas (size_in 0 snd.metas) 0 snd.rising)) in
+    let sh : AllByRecursion Short cs = subst (AllByRecursion Short) (sym snd.whole) (names_short snd.metas snd.datas snd.good (data_short snd.datas (size_in 0 snd.metas) 0 snd.rising)) in
     let blank : SpanIn xs none.from = record { inside = omega arith; short = omega arith } in
     let sp = spans_in side xs (101 ∷ []) cs header 12 none a.0 refl sh blank blank in
     let F : Gathered → Type 0 = λ g. SpanIn xs g.from × SpanIn xs g.to in

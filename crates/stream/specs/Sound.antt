@@ -1,7 +1,7 @@
 -- Which lists of records are sound, in one look at the whole list, and that a stream is accepted exactly if it is the stream of one. Rests on
 -- the rules record by record (Wellformed).
 use Rattle.std.specs.Prelude.{◌≡◌, ℕ, suc, ◌+◌, ◌^◌, ◌≤◌, List, [], ◌∷◌, ◌++◌, length, Ok, Err, Result}
-use Rattle.std.specs.List.{AllByRecursion as All}
+use Rattle.std.specs.List.{AllByRecursion}
 use Rattle.stream.specs.Records.{Content, from_name, to_name, image_size, data_at, zeros_at, encoded_stream}
 use Rattle.stream.specs.Verdict.{start, verdict, checked}
 use Rattle.stream.specs.Wellformed.{GoodName, WellFormed, Bytes, Refusal}
@@ -55,7 +55,7 @@ pub record Sound (cs : List Content) : Type 0 where
   pub metas : List Content
   pub datas : List Content
   pub whole : cs ≡ metas ++ datas
-  pub good : All GoodMeta metas
+  pub good : AllByRecursion GoodMeta metas
   pub one_from : froms metas ≤ 1
   pub one_to : tos metas ≡ 1
   pub one_size : sizes metas ≡ 1

@@ -1,5 +1,5 @@
 use Rattle.std.specs.Prelude.{◌≡◌, ℕ, ◌+◌, ◌^◌, ◌<◌, ◌≤◌, true, ◌⊎◌, List, [], ◌∷◌, ◌++◌, length, take, Ok, Err, Result, ◌≢◌}
-use Rattle.std.specs.List.{AllByRecursion as All}
+use Rattle.std.specs.List.{AllByRecursion}
 use Rattle.stream.specs.Rule.{from_rule, to_rule, size_rule, late_rule}
 use Rattle.stream.specs.Steps.{Pos, every_printable, step_of, fault_at}
 use Rattle.stream.specs.Records.{Content, from_name, to_name, image_size, data_at, zeros_at, encodings, encoded_stream, header}
@@ -48,7 +48,7 @@ WellFormed p [] = late_rule p.state ≡ Ok Data
 WellFormed p (c ∷ cs) = (s : State) × (rule_of c p.state ≡ Ok s) × Good p c × WellFormed (moved p c s) cs
 
 abbrev pub Bytes : List ℕ → Type 0
-Bytes xs = All (λ b. b < 256) xs
+Bytes xs = AllByRecursion (λ b. b < 256) xs
 
 -- reading the stream of a well-formed list gives the list
 abbrev pub ReadsBack : Type 0

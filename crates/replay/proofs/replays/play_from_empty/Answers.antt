@@ -9,7 +9,7 @@ returns-in_err-shelf g c =
     let y = err_from_is_err_and c.from_residual.result c.from_residual.ensures.1 in
     rw (y.1, y.2) (record {
       same = refl;
-      replayed = record { bad = sym c.in_err-shelf.ensures; bytes-stay = refl; image-stays = refl; buffer-stays = refl; answers_stay = refl };
+      replayed = record { bad = sym c.in_err-shelf.ensures; bytes_stay = refl; image_stays = refl; buffer_stays = refl; answers_stay = refl };
       always = promise;
     })
 
