@@ -17,6 +17,7 @@ pub enum Command<'a> {
         name: &'a str,
         image: &'a str,
     },
+    Streams,
     Tour,
     Help,
 }
@@ -29,7 +30,8 @@ pub const USAGE: &str = "usage: lovgwarzh COMMAND
   join EARLIER LATER OUT     joins two streams that follow each other, and writes the join to OUT
   apply STREAM NAME IMAGE    applies a stream to the file IMAGE, which stands at snapshot NAME
                              (- before the first snapshot)
-  tour                       shows the calls on examples
+  tour                       shows the calls on examples, streams and a shelf; without a COMMAND
+                             the examples of streams alone are shown
   help                       prints this
 
 A command that is refused, or cannot read or write a file, says why on standard error, ends with
@@ -40,7 +42,7 @@ status 1, and leaves OUT and IMAGE as they were. Files are held in memory, up to
 // few or too many.
 pub fn parse(words: &[String]) -> Option<Command<'_>> {
     let [name, rest @ ..] = words else {
-        return Some(Command::Help);
+        return Some(Command::Streams);
     };
     match name.as_str() {
         "check" => parse_check(rest),

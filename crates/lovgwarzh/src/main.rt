@@ -4,8 +4,9 @@
 use command::{Command, USAGE, parse};
 use commands::{apply_to_file, check_file, join_files, list_file};
 use failure::Failure;
+use std::process::ExitCode;
 use std::{env, io};
-use tour::show_tour;
+use tour::{show_streams, show_tour};
 
 mod chain;
 mod command;
@@ -32,6 +33,7 @@ fn carry_out(rt: &HostRuntime, command: Command) -> Result<(), Failure> {
             name,
             image,
         } => apply_to_file(rt, stream, name, image),
+        Command::Streams => Ok(show_streams(rt)?),
         Command::Tour => Ok(show_tour(rt)?),
         Command::Help => Ok(rt.print(USAGE)?),
     }
@@ -57,14 +59,13 @@ fn tell(rt: &HostRuntime, failure: &Failure) -> io::Result<()> {
     }
 }
 
-// An Err ends the program with status 1, and prints nothing by itself.
-fn main(rt: HostRuntime) -> Result<(), Failure> {
+fn main(rt: HostRuntime) -> ExitCode {
     match run(&rt) {
-        Ok(()) => Ok(()),
+        Ok(()) => ExitCode::SUCCESS,
         Err(failure) => {
             // Where standard error is closed there is nobody to tell.
             let _ = tell(&rt, &failure);
-            Err(failure)
+            ExitCode::FAILURE
         }
     }
 }

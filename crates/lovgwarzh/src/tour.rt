@@ -161,7 +161,16 @@ fn show_join(rt: &HostRuntime) -> anyhow::Result<()> {
     Ok(())
 }
 
-// Prints the tour.
+// Prints the tour of streams: what a call without words shows.
+pub fn show_streams(rt: &HostRuntime) -> anyhow::Result<()> {
+    println!(rt;
+        "Lovgwarzh: differences between snapshots of an image, checked, listed, joined and applied."
+    )?;
+    show_one_stream(rt)?;
+    show_join(rt)
+}
+
+// Prints the whole tour: streams, and a series of calls on a shelf.
 pub fn show_tour(rt: &HostRuntime) -> anyhow::Result<()> {
     println!(rt;
         "Lovgwarzh: differences between snapshots of an image, checked, listed, joined, applied, and kept on a shelf."

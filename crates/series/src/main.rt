@@ -306,7 +306,7 @@ fn run(rt: &HostRuntime) -> anyhow::Result<()> {
     let mut lines = Vec::new(rt.alloc());
     for line in BufReader::new(rt.alloc(), rt.stdin())?.lines(rt.alloc()) {
         let line = line?;
-        if line == "end" {
+        if line.as_str() == "end" {
             play_series(rt, &lines)?;
             println!(rt; "end")?;
             lines.clear();
