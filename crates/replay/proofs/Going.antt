@@ -4,7 +4,7 @@ use Rattle.fault.specs.declared.kinds.Fault.{Fault}
 use Rattle.std.proofs.lemmas.List.{append_assoc, append-nil, take-append-drop, take_more_set, drop_more, drop_all, drop-drop, drop-set-lt}
 use Rattle.store.specs.Stores.{Images}
 use Rattle.replay.specs.declared.requests.Request.{Request}
-use Rattle.replay.specs.Series.{events, last}
+use Rattle.shelf.specs.Series.{events, last}
 use Rattle.replay.specs.Replays.{Scene, answer_of, happening, scene_after, calls_made, last_scene, Played}
 
 module _ (holds : Images) where

@@ -1,17 +1,3 @@
-mod Pieces
-mod Algebra
-mod Tabled
-mod Standing
-mod Entered
-mod Changes
-mod Accepts
-mod Stretched
-mod Kept
-mod Settled
-mod Stepped
-mod Refused
-mod Shown
-mod Promised
 mod Handed
 mod Going
 mod Replaying

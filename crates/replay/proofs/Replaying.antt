@@ -8,10 +8,10 @@ use Rattle.replay.specs.declared.requests.Request.{Request}
 use Rattle.shelf.specs.declared.shelf.Shelf.{Shelf}
 use Rattle.shelf.specs.Shelves.{shelf_table}
 use Rattle.shelf.specs.Outcomes.{make_answer}
-use Rattle.replay.specs.Series.{opened, events}
-use Rattle.replay.specs.Promise.{ComesBack}
+use Rattle.shelf.specs.Series.{opened, events}
+use Rattle.shelf.specs.Promise.{ComesBack}
 use Rattle.replay.specs.Replays.{Scene, scene, calls_made, Played, Replays}
-use Rattle.replay.proofs.Promised.{promise}
+use Rattle.shelf.proofs.Promised.{promise}
 
 -- what is made is empty
 made_empty : (name : List ℕ) (t : Table) → Ok t ≡ make_answer name → t ≡ empty_table name

@@ -10,9 +10,9 @@ use Rattle.replay.specs.declared.requests.Window.{Window}
 use Rattle.shelf.specs.declared.shelf.Shelf.{Shelf}
 use Rattle.shelf.specs.Shelves.{shelf_table}
 use Rattle.shelf.specs.Outcomes.{make_answer}
-use Rattle.replay.specs.Calls.{Call, put, join, settle, list}
-use Rattle.replay.specs.Series.{World, opened, Event, event, after, events, last}
-use Rattle.replay.specs.Promise.{ComesBack}
+use Rattle.shelf.specs.Calls.{Call, put, join, settle, list}
+use Rattle.shelf.specs.Series.{World, opened, Event, event, after, events, last}
+use Rattle.shelf.specs.Promise.{ComesBack}
 
 -- what a window of a buffer holds, and the buffer with other bytes in the window
 abbrev pub window : Window → List ℕ → List ℕ

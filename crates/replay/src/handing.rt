@@ -2,7 +2,7 @@
 ghost use Rattle.std.specs.Prelude.{◌≡◌, ◌+◌, ◌-◌, ◌≤◌, min, ◌++◌, take, drop};
 ghost use Rattle.shelf.specs.Outcomes.{put_answer, put_table, put_bytes, join_answer, join_work, join_table, join_bytes, settle_answer, settle_image, settle_table, settle_bytes, list_answer, list_buffer};
 ghost use Rattle.replay.specs.Replays.{window, with_window};
-ghost use Rattle.replay.specs.Series.{untold};
+ghost use Rattle.shelf.specs.Series.{untold};
 ghost use Rattle.shelf.specs.Shelves.{shelf_table};
 
 use crate::requests::Window;

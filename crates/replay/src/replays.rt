@@ -1,6 +1,6 @@
 // Series of calls on a shelf, made one after another.
 ghost use Rattle.std.specs.Prelude.{◌≡◌, List, length, take};
-ghost use Rattle.replay.specs.Promise.{AlwaysComesBack};
+ghost use Rattle.shelf.specs.Promise.{AlwaysComesBack};
 ghost use Rattle.replay.specs.Replays.{scene, happening, scene_after, answer_of, Played, Replayed};
 
 use crate::handing::{join_handed, list_handed, put_handed, settle_handed};

@@ -1,4 +1,11 @@
+pub mod TableLaws
 pub mod Entries
 pub mod Shelves
 pub mod Outcomes
 pub mod Steps
+pub mod Calls
+pub mod Ledger
+pub mod Stretches
+pub mod Series
+pub mod Refusals
+pub mod Promise

@@ -102,11 +102,11 @@ settle_image holds t bytes image = (settle_outcome holds t bytes image).1
 
 -- once it was applied the entry leaves, and the others move to the front
 abbrev pub settle_table : Images → Table → List ℕ → List ℕ → Table
-settle_table holds t bytes image = unless_refused (settle_answer holds t bytes image) (λ _. drop_row t) t
+settle_table holds t bytes image = unless_refused (settle_outcome holds t bytes image).0 (λ _. drop_row t) t
 
 abbrev pub settle_bytes : Images → Table → List ℕ → List ℕ → List ℕ
 settle_bytes holds t bytes image =
-    unless_refused (settle_answer holds t bytes image) (λ _. replaced t.fill bytes 0 (end_of (row_at t 0)) []) bytes
+    unless_refused (settle_outcome holds t bytes image).0 (λ _. replaced t.fill bytes 0 (end_of (row_at t 0)) []) bytes
 
 -- list: the text of the ranges of entry i
 unfoldable pub list_text : Table → List ℕ → ℕ → Result (List ℕ) Fault

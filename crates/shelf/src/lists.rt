@@ -41,7 +41,7 @@ fn write_ranges(source: Source, text: &mut [u8]) -> Result<usize, Fault>
 }
 
 // Writes the ranges of entry i to the front of `text`, and tells how many bytes that took.
-pub(crate) fn list_entry(
+pub(crate) fn list(
     table: &EntryTable,
     bytes: &[u8],
     i: usize,

@@ -4,7 +4,7 @@ ghost use Rattle.shelf.specs.Outcomes.{make_answer, put_answer, put_table, put_b
 ghost use Rattle.shelf.specs.Shelves.{shelf_table, made_table};
 
 use crate::joins::join_entries;
-use crate::lists::list_entry;
+use crate::lists::list;
 use crate::puts::put_stream;
 use crate::settling::settle_first;
 use crate::shelf::Shelf;
@@ -70,6 +70,6 @@ impl Shelf {
         ensures answer { result ≡ list_answer (shelf_table self.now) bytes.now i text.old }
         ensures buffer { text.new ≡ list_buffer (shelf_table self.now) bytes.now i text.old }
     {
-        list_entry(&self.table, bytes, i, text)
+        list(&self.table, bytes, i, text)
     }
 }

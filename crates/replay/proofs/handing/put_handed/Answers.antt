@@ -1,6 +1,6 @@
 use Rattle.std.proofs.Common.{◌++◌, ap, ◌∙◌, ap₂}
 use Rattle.shelf.specs.Outcomes.{put_answer, put_table, put_bytes}
-use Rattle.replay.specs.Series.{untold}
+use Rattle.shelf.specs.Series.{untold}
 use Rattle.shelf.specs.Shelves.{shelf_table}
 use Rattle.replay.proofs.Handed.{handed_is, beyond_is}
 use Rattle.replay.proofs.handing.put_handed.Goals as goal

@@ -1,6 +1,6 @@
 use Rattle.std.proofs.Common.{sym, refl}
 use Rattle.std.proofs.lemmas.Result.{err_from_is_err_and}
-use Rattle.replay.proofs.Promised.{promise}
+use Rattle.shelf.proofs.Promised.{promise}
 use Rattle.replay.proofs.Replaying.{replays}
 use Rattle.replay.proofs.replays.play_from_empty.Goals as goal
 

@@ -10,12 +10,12 @@ use Rattle.apply.proofs.Lawful.{applies_exactly, stops_harmless}
 use Rattle.join.proofs.Expressed.{expressed_sound, expressed_means}
 use Rattle.stream.proofs.Sounds.{never}
 use Rattle.shelf.specs.Outcomes.{put_plan, join_plan, settle_plan, settle_by, settle_outcome}
-use Rattle.replay.specs.Calls.{Call, put, join, settle, list}
-use Rattle.replay.specs.Ledger.{Ledger, feed, accepted_by}
-use Rattle.replay.specs.Series.{World, fed, event, after}
+use Rattle.shelf.specs.Calls.{Call, put, join, settle, list}
+use Rattle.shelf.specs.Ledger.{Ledger, feed, accepted_by}
+use Rattle.shelf.specs.Series.{World, fed, event, after}
 use Rattle.shelf.proofs.Plans.{put_planned, join_planned, settle_planned}
-use Rattle.replay.proofs.Kept.{Kept, same_kept, put_kept, join_kept}
-use Rattle.replay.proofs.Settled.{settle_kept, stop_kept}
+use Rattle.shelf.proofs.Kept.{Kept, same_kept, put_kept, join_kept}
+use Rattle.shelf.proofs.Settled.{settle_kept, stop_kept}
 
 -- what holds of a ledger, the accepted streams and a world beside a first image
 abbrev pub Held : List ℕ → Ledger → List (List ℕ) → World → Type 0

@@ -6,10 +6,10 @@ use Rattle.std.proofs.ByRecursion.{All-weaker, All-map}
 use Rattle.stream.specs.Meaning.{ranges}
 use Rattle.stream.specs.Difference.{meaning, applied, Expressible}
 use Rattle.join.proofs.Applying.{applied_in_turn}
-use Rattle.replay.specs.Ledger.{Stretch, streams_of, both, united}
-use Rattle.replay.specs.Stretches.{difference_in, differences_in, applied_all, stretch_join, stretch_overlay}
-use Rattle.replay.proofs.Accepts.{expressible}
-use Rattle.replay.proofs.Algebra.{join_both, Small, overlay_is}
+use Rattle.shelf.specs.Ledger.{Stretch, streams_of, both, united}
+use Rattle.shelf.specs.Stretches.{difference_in, differences_in, applied_all, stretch_join, stretch_overlay}
+use Rattle.shelf.proofs.Accepts.{expressible}
+use Rattle.shelf.proofs.Algebra.{join_both, Small, overlay_is}
 
 -- items i and i + 1 made one, around them
 pub united_is : {X : Type 0} (f : X → X → X) (pre : List X) (x y : X) (bs : List X) → united f (length pre) (pre ++ (x ∷ y ∷ bs)) ≡ pre ++ (f x y ∷ bs)

@@ -6,7 +6,7 @@ use Rattle.join.specs.Sources.{source_cells, source_difference}
 use Rattle.stream.specs.Meaning.{ranges}
 use Rattle.table.specs.Held.{table_of}
 use Rattle.shelf.proofs.Reading.{text_none, text_short, text_read, answer_err, buffer_err, answer_ok, buffer_ok}
-use Rattle.shelf.proofs.lists.list_entry.Goals as goal
+use Rattle.shelf.proofs.lists.list.Goals as goal
 
 pub returns-then-count-i : goal.returns-then-count-i
 returns-then-count-i c =

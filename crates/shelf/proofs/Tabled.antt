@@ -2,9 +2,9 @@
 use Rattle.std.proofs.Common.{◌≡◌, ℕ, zero, suc, ◌+◌, ◌-◌, ◌<◌, ◌≤◌, List, [], ◌∷◌, ◌++◌, map, length, get_or, take, drop, sym, refl, ap, ◌∙◌, subst, add-one, arith}
 use Rattle.std.proofs.lemmas.List.{length-append, length-map, length-take, length-drop, get_or_at, get_or_append_left, get_or-append_right, get_or-take, get_or-drop, get_or-map}
 use Rattle.table.specs.Tables.{Row, Table, end_of, no_row, row_at, last_name, fill_after, moved, one_row, unite_rows, drop_row, EndToEnd, Laid_out, Chained, LeadsOn}
-use Rattle.replay.specs.TableLaws.{LawsOfTables}
+use Rattle.shelf.specs.TableLaws.{LawsOfTables}
 use Rattle.table.proofs.Ends.{ends_le, ends_append, ends_moved, ends_inside, ends_next}
-use Rattle.replay.proofs.Pieces.{AroundTwo, around_two, take_before, getD_here, getD_next, drop_behind}
+use Rattle.shelf.proofs.Pieces.{AroundTwo, around_two, take_before, getD_here, getD_next, drop_behind}
 
 -- rows end to end: two parts of them, their bounds, and the same rows moved
 ends_split : (a c : ℕ) (rs ss : List Row) → EndToEnd a (rs ++ ss) c → (b : ℕ) × EndToEnd a rs b × EndToEnd b ss c

@@ -5,8 +5,8 @@ use Rattle.fault.specs.declared.kinds.Fault.{Fault}
 use Rattle.store.specs.Stores.{Images}
 use Rattle.table.specs.Tables.{Table, empty_table}
 use Rattle.shelf.specs.Outcomes.{put_answer, put_table, put_bytes, join_answer, join_work, join_table, join_bytes, settle_answer, settle_image, settle_table, settle_bytes, list_answer, list_buffer}
-use Rattle.replay.specs.Calls.{Call, put, join, settle, list}
-use Rattle.replay.specs.Ledger.{Fed}
+use Rattle.shelf.specs.Calls.{Call, put, join, settle, list}
+use Rattle.shelf.specs.Ledger.{Fed}
 
 -- a shelf with its bytes and the base image
 pub record World : Type 0 where

@@ -9,10 +9,10 @@ use Rattle.store.specs.Stores.{Images}
 use Rattle.stream.specs.Difference.{meaning}
 use Rattle.stream.specs.Told.{stream_ranges}
 use Rattle.shelf.specs.Entries.{entry, shelf_streams}
-use Rattle.replay.specs.Calls.{Call, list}
-use Rattle.replay.specs.Ledger.{streams_of, Ledger, ledger, accepted}
-use Rattle.replay.specs.Stretches.{difference_in, differences_in, applied_all, stretch_join, stretch_stream, stretch_overlay}
-use Rattle.replay.specs.Series.{World, opened, Event, fed, events, last}
+use Rattle.shelf.specs.Calls.{Call, list}
+use Rattle.shelf.specs.Ledger.{streams_of, Ledger, ledger, accepted}
+use Rattle.shelf.specs.Stretches.{difference_in, differences_in, applied_all, stretch_join, stretch_stream, stretch_overlay}
+use Rattle.shelf.specs.Series.{World, opened, Event, fed, events, last}
 
 -- a list call that was not refused told and wrote the text of the overlay of the entry's stretch, and bytes behind it are as they were
 pub record Lists (l : Ledger) (i : ℕ) (text : List ℕ) (n : ℕ) (buffer : List ℕ) : Type 0 where

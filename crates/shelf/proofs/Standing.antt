@@ -6,7 +6,7 @@ use Rattle.stream.specs.Difference.{Difference, canonical}
 use Rattle.table.specs.Tables.{Row, Table, no_row, row_at, moved}
 use Rattle.shelf.specs.Entries.{slice, shelf_streams}
 use Rattle.overlay.proofs.Overlaid.{cons}
-use Rattle.replay.proofs.Pieces.{strung_append}
+use Rattle.shelf.proofs.Pieces.{strung_append}
 use Rattle.shelf.proofs.Spliced.{take_past}
 
 -- how long a difference's stream is

@@ -5,10 +5,10 @@ use Rattle.stream.specs.Difference.{Difference, canonical}
 use Rattle.table.specs.Tables.{Row, Table, end_of, no_row, row_at, fill_after, moved, one_row, add_row, unite_rows, drop_row}
 use Rattle.shelf.specs.Entries.{replaced}
 use Rattle.overlay.proofs.Overlaid.{cons}
-use Rattle.replay.proofs.Pieces.{strung_append, getD_here, getD_next}
+use Rattle.shelf.proofs.Pieces.{strung_append, getD_here, getD_next}
 use Rattle.shelf.proofs.Spliced.{spliced}
-use Rattle.replay.proofs.Tabled.{united_as}
-use Rattle.replay.proofs.Standing.{long, all_bytes, row_for, rows_for, table_for, Stands, length_rows, rows_split, rows_moved}
+use Rattle.shelf.proofs.Tabled.{united_as}
+use Rattle.shelf.proofs.Standing.{long, all_bytes, row_for, rows_for, table_for, Stands, length_rows, rows_split, rows_moved}
 
 -- a table by its rows and its fill
 table_is : (base : List ℕ) (rs ss : List Row) (m n : ℕ) → rs ≡ ss → m ≡ n → ◌≡◌ {A = Table} (record { base = base; rows = rs; fill = m }) (record { base = base; rows = ss; fill = n })

@@ -3,8 +3,8 @@ use Rattle.std.specs.Prelude.{◌≡◌, ℕ, List, [], Err, ◌≢◌}
 use Rattle.fault.specs.declared.kinds.Cause.TheVariants.{NoRoom}
 use Rattle.fault.specs.declared.kinds.Fault.{Fault}
 use Rattle.store.specs.Stores.{Images}
-use Rattle.replay.specs.Calls.{Call, put, join, settle, list}
-use Rattle.replay.specs.Series.{World, event, after}
+use Rattle.shelf.specs.Calls.{Call, put, join, settle, list}
+use Rattle.shelf.specs.Series.{World, event, after}
 
 -- the buffer that a call is handed
 abbrev pub buffer_in : Call → List ℕ

@@ -14,16 +14,16 @@ use Rattle.stream.specs.Told.{stream_ranges}
 use Rattle.stream.specs.Difference.{Difference, difference, meaning, canonical}
 use Rattle.join.proofs.Expressed.{expressed_meaning}
 use Rattle.shelf.specs.Entries.{shelf_streams}
-use Rattle.replay.specs.Calls.{Call, put, join, settle, list}
-use Rattle.replay.specs.Ledger.{Stretch, Ledger, blank, feed, ledger, accepted_by, accepted}
-use Rattle.replay.specs.Stretches.{differences_in, applied_all, stretch_join, stretch_stream, stretch_overlay, meant}
-use Rattle.replay.specs.Series.{World, opened, Event, fed, event, after, events, last}
-use Rattle.replay.specs.Promise.{Lists, AlwaysComesBack}
+use Rattle.shelf.specs.Calls.{Call, put, join, settle, list}
+use Rattle.shelf.specs.Ledger.{Stretch, Ledger, blank, feed, ledger, accepted_by, accepted}
+use Rattle.shelf.specs.Stretches.{differences_in, applied_all, stretch_join, stretch_stream, stretch_overlay, meant}
+use Rattle.shelf.specs.Series.{World, opened, Event, fed, event, after, events, last}
+use Rattle.shelf.specs.Promise.{Lists, AlwaysComesBack}
 use Rattle.overlay.proofs.Overlaid.{cons}
-use Rattle.replay.proofs.Standing.{stands_streams}
-use Rattle.replay.proofs.Stretched.{GoodStretch, overlay_good}
-use Rattle.replay.proofs.Stepped.{Held, stays}
-use Rattle.replay.proofs.Shown.{reads_join, list_shows}
+use Rattle.shelf.proofs.Standing.{stands_streams}
+use Rattle.shelf.proofs.Stretched.{GoodStretch, overlay_good}
+use Rattle.shelf.proofs.Stepped.{Held, stays}
+use Rattle.shelf.proofs.Shown.{reads_join, list_shows}
 
 -- the ranges of a stream are those of its difference
 ranges_by : (v : Result (List Content) Fault) → then v (λ cs. Ok (ranges (cells cs))) ≡ then (then v (λ cs. Ok (difference cs))) (λ d. Ok (ranges d.cells))

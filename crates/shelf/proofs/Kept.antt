@@ -8,17 +8,17 @@ use Rattle.stream.specs.Difference.{Difference, joined, applied, canonical, Expr
 use Rattle.join.proofs.InTurn.{join_expressible}
 use Rattle.table.specs.Tables.{Table, end_of, row_at, add_row, unite_rows}
 use Rattle.shelf.specs.Entries.{replaced}
-use Rattle.replay.specs.Ledger.{Stretch, streams_of, lone, both, united}
-use Rattle.replay.specs.Stretches.{meant, difference_in, differences_in, applied_all, stretch_join}
+use Rattle.shelf.specs.Ledger.{Stretch, streams_of, lone, both, united}
+use Rattle.shelf.specs.Stretches.{meant, difference_in, differences_in, applied_all, stretch_join}
 use Rattle.stream.proofs.Back.{ok_same}
-use Rattle.replay.proofs.Pieces.{AroundTwo, around_two}
-use Rattle.replay.proofs.Accepts.{expressible}
-use Rattle.replay.proofs.Algebra.{applied_push, join_both}
-use Rattle.replay.proofs.Standing.{long, Stands, stands_count, stands_handed, stands_beyond}
-use Rattle.replay.proofs.Changes.{stands_put, stands_join}
+use Rattle.shelf.proofs.Pieces.{AroundTwo, around_two}
+use Rattle.shelf.proofs.Accepts.{expressible}
+use Rattle.shelf.proofs.Algebra.{applied_push, join_both}
+use Rattle.shelf.proofs.Standing.{long, Stands, stands_count, stands_handed, stands_beyond}
+use Rattle.shelf.proofs.Changes.{stands_put, stands_join}
 use Rattle.shelf.proofs.Plans.{PutPlanned, JoinPlanned}
-use Rattle.replay.proofs.Entered.{entry_reads}
-use Rattle.replay.proofs.Stretched.{united_is, all_split, applied_united, streams_united, Meant, GoodStretch}
+use Rattle.shelf.proofs.Entered.{entry_reads}
+use Rattle.shelf.proofs.Stretched.{united_is, all_split, applied_united, streams_united, Meant, GoodStretch}
 
 -- `first` is the first image, `settled` and `ss` are the ledger's, `acc` the accepted streams
 pub record Kept (first : List ℕ) (settled : List (List ℕ)) (ss : List Stretch) (acc : List (List ℕ)) (t : Table) (bytes image : List ℕ) : Type 0 where

@@ -9,7 +9,7 @@ use Rattle.overlay.specs.Runs.{painted, runs_from}
 use Rattle.overlay.specs.States.{overlaid}
 use Rattle.stream.specs.Meaning.{ranges}
 use Rattle.stream.specs.Difference.{Difference, meaning, joined, applied, canonical}
-use Rattle.replay.specs.Ledger.{Stretch}
+use Rattle.shelf.specs.Ledger.{Stretch}
 
 -- the difference of a stream; put accepts no stream without one
 abbrev pub meant : Result Difference Fault → Difference

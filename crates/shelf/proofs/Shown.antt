@@ -10,18 +10,18 @@ use Rattle.stream.specs.Difference.{Difference}
 use Rattle.table.specs.Tables.{Table}
 use Rattle.shelf.specs.Entries.{entry}
 use Rattle.shelf.specs.Outcomes.{list_answer, list_buffer}
-use Rattle.replay.specs.Ledger.{Stretch, Ledger}
-use Rattle.replay.specs.Stretches.{stretch_join, stretch_overlay}
-use Rattle.replay.specs.Series.{World}
-use Rattle.replay.specs.Promise.{Lists}
+use Rattle.shelf.specs.Ledger.{Stretch, Ledger}
+use Rattle.shelf.specs.Stretches.{stretch_join, stretch_overlay}
+use Rattle.shelf.specs.Series.{World}
+use Rattle.shelf.specs.Promise.{Lists}
 use Rattle.stream.proofs.Back.{ok_same}
-use Rattle.replay.proofs.Pieces.{Around, around}
-use Rattle.replay.proofs.Standing.{stands_count, stands_handed}
+use Rattle.shelf.proofs.Pieces.{Around, around}
+use Rattle.shelf.proofs.Standing.{stands_count, stands_handed}
 use Rattle.shelf.proofs.Plans.{list_planned}
-use Rattle.replay.proofs.Entered.{entry_reads}
-use Rattle.replay.proofs.Stretched.{all_split, GoodStretch, overlay_good}
-use Rattle.replay.proofs.Kept.{Kept}
-use Rattle.replay.proofs.Stepped.{Held}
+use Rattle.shelf.proofs.Entered.{entry_reads}
+use Rattle.shelf.proofs.Stretched.{all_split, GoodStretch, overlay_good}
+use Rattle.shelf.proofs.Kept.{Kept}
+use Rattle.shelf.proofs.Stepped.{Held}
 
 module _ (first : List ℕ) (settled : List (List ℕ)) (ss : List Stretch) (acc : List (List ℕ)) (t : Table) (bytes image : List ℕ) (h : Kept first settled ss acc t bytes image)
     (k i : ℕ) (l : i < length t.rows) (reaches : t.fill ≤ length (take k bytes)) where

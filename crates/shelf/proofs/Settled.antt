@@ -5,14 +5,14 @@ use Rattle.std.specs.List.{flat_map as strung}
 use Rattle.stream.specs.Difference.{Difference, applied, Expressible}
 use Rattle.table.specs.Tables.{Table, end_of, row_at, drop_row}
 use Rattle.shelf.specs.Entries.{replaced}
-use Rattle.replay.specs.Ledger.{Stretch, streams_of, settle_first}
-use Rattle.replay.specs.Stretches.{applied_all, stretch_join}
+use Rattle.shelf.specs.Ledger.{Stretch, streams_of, settle_first}
+use Rattle.shelf.specs.Stretches.{applied_all, stretch_join}
 use Rattle.stream.proofs.Back.{ok_same}
-use Rattle.replay.proofs.Standing.{Stands, stands_count, stands_handed, stands_beyond}
-use Rattle.replay.proofs.Changes.{stands_settle}
+use Rattle.shelf.proofs.Standing.{Stands, stands_count, stands_handed, stands_beyond}
+use Rattle.shelf.proofs.Changes.{stands_settle}
 use Rattle.shelf.proofs.Plans.{SettlePlanned}
-use Rattle.replay.proofs.Entered.{entry_reads}
-use Rattle.replay.proofs.Kept.{Kept}
+use Rattle.shelf.proofs.Entered.{entry_reads}
+use Rattle.shelf.proofs.Kept.{Kept}
 
 module _ (first : List ℕ) (settled acc : List (List ℕ)) (t : Table) (bytes image : List ℕ) (k : ℕ)
     (d : Difference) (p : SettlePlanned t (take k bytes) d) (image' : List ℕ) where

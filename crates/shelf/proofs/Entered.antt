@@ -8,7 +8,7 @@ use Rattle.join.proofs.Expressed.{expressed_meaning}
 use Rattle.table.specs.Tables.{Table}
 use Rattle.shelf.specs.Entries.{refuse_if, slice, is_whole, read_row, entry}
 use Rattle.stream.proofs.Refused.{same_refl}
-use Rattle.replay.proofs.Standing.{all_bytes, row_for, Stands, stands_row, stands_slice}
+use Rattle.shelf.proofs.Standing.{all_bytes, row_for, Stands, stands_row, stands_slice}
 
 pub entry_reads : (ds : List Difference) (t : Table) (bytes : List ℕ) → Stands ds t bytes → (pre : List Difference) (d : Difference) (bs : List Difference) (i : ℕ)
     → ds ≡ pre ++ (d ∷ bs) → length pre ≡ i → Expressible d → entry t bytes i ≡ Ok d

@@ -6,8 +6,8 @@ use Rattle.overlay.proofs.Overlaid.{overlaid_length}
 use Rattle.stream.specs.Meaning.{zeroed, ranges}
 use Rattle.stream.specs.Difference.{Difference, joined, applied}
 use Rattle.join.proofs.InTurn.{joined_bracketing, ranges_overlaid}
-use Rattle.replay.specs.Ledger.{Stretch, streams_of, both}
-use Rattle.replay.specs.Stretches.{difference_in, differences_in, applied_all, joined_all, stretch_join, overlay_all, overlay_from}
+use Rattle.shelf.specs.Ledger.{Stretch, streams_of, both}
+use Rattle.shelf.specs.Stretches.{difference_in, differences_in, applied_all, joined_all, stretch_join, overlay_all, overlay_from}
 
 pub applied_push : (ds : List Difference) (d : Difference) (image : List ℕ) → applied_all (ds ++ (d ∷ [])) image ≡ applied d.cells (applied_all ds image)
 applied_push [] d image = refl

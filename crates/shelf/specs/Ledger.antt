@@ -2,7 +2,7 @@
 -- whether it was refused, and nothing else. Rests on the calls alone.
 use Rattle.std.specs.Prelude.{ℕ, zero, suc, Bool, cond, List, [], ◌∷◌, ◌++◌, fold}
 use Rattle.std.specs.List.{flat_map as strung}
-use Rattle.replay.specs.Calls.{Call, put, join, settle, list}
+use Rattle.shelf.specs.Calls.{Call, put, join, settle, list}
 
 -- a stretch: successive streams, at least one, oldest first
 pub record Stretch : Type 0 where

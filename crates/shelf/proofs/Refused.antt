@@ -18,11 +18,11 @@ use Rattle.join.proofs.Expressed.{expressed_sound}
 use Rattle.table.specs.Tables.{Table, row_at}
 use Rattle.shelf.specs.Entries.{refuse_if, slice, is_whole, entry}
 use Rattle.shelf.specs.Outcomes.{put_plan, join_plan, settle_plan, settle_by, settle_outcome, list_text}
-use Rattle.replay.specs.Calls.{put, join, settle, list}
-use Rattle.replay.specs.Series.{World, event}
-use Rattle.replay.proofs.Accepts.{expressible}
+use Rattle.shelf.specs.Calls.{put, join, settle, list}
+use Rattle.shelf.specs.Series.{World, event}
+use Rattle.shelf.proofs.Accepts.{expressible}
 use Rattle.shelf.proofs.Plans.{fault_by_back, settle_planned}
-use Rattle.replay.specs.Refusals.{Unaltered, RefusalsAlterNothing}
+use Rattle.shelf.specs.Refusals.{Unaltered, RefusalsAlterNothing}
 
 -- a buffer that was too short is left alone
 short_alone : (text x : List ℕ) (i : ℕ) (f : Fault) → fault_by (in_entry i) (filling Stream text x) ≡ Err f → filled text x ≡ text

@@ -1,7 +1,0 @@
-use Rattle.replay.proofs.Promised.{promise}
-use Rattle.replay.proofs.Refused.{refusals_alter_nothing}
-use Rattle.replay.proofs.Tabled.{laws_of_tables}
-use Rattle.replay.proofs.laws_of_the_shelf.Goals as goal
-
-pub returns : goal.returns
-returns c = record { tables = laws_of_tables; refusals = refusals_alter_nothing; comes_back = promise }

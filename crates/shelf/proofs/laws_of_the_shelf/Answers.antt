@@ -1,0 +1,7 @@
+use Rattle.shelf.proofs.Promised.{promise}
+use Rattle.shelf.proofs.Refused.{refusals_alter_nothing}
+use Rattle.shelf.proofs.Tabled.{laws_of_tables}
+use Rattle.shelf.proofs.laws_of_the_shelf.Goals as goal
+
+pub returns : goal.returns
+returns c = record { tables = laws_of_tables; refusals = refusals_alter_nothing; comes_back = promise }
