@@ -60,7 +60,7 @@ fn fit_stream<'s, 'r>(
 }
 
 // The same, with the number that the entry would have had in each fault.
-fn plan_put<'s, 'r>(
+pub(crate) fn plan_put<'s, 'r>(
     table: &EntryTable,
     bytes: &[u8],
     stream: &'s [u8],

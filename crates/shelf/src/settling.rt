@@ -6,7 +6,8 @@ ghost use Rattle.join.specs.Sources.{Sourced, source_difference};
 ghost use Rattle.overlay.specs.declared.payloads.Side.TheVariants.{Later};
 ghost use Rattle.shelf.specs.Entries.{refuse_if, is_short};
 ghost use Rattle.shelf.specs.Outcomes.{settle_by, settle_answer, settle_image, settle_table, settle_bytes};
-ghost use Rattle.shelf.specs.Steps.{Own, MayLeave};
+ghost use Rattle.shelf.specs.Steps.{MayLeave};
+ghost use Rattle.stream.specs.Difference.{meaning, canonical};
 ghost use Rattle.table.specs.Held.{table_of};
 
 use crate::entries::read_entry;
@@ -19,7 +20,7 @@ use store::Store;
 use table::EntryTable;
 
 // Refuses to settle a shelf that has no entry, or whose bytes end before the fill.
-fn check_first(table: &EntryTable, bytes: &[u8]) -> Result<(), Fault>
+pub(crate) fn check_first(table: &EntryTable, bytes: &[u8]) -> Result<(), Fault>
     ensures { result ≡ refuse_if (length (table_of table.now).rows == 0) (fault causes.NoEntry 0) (refuse_if (is_short (table_of table.now) bytes.now) (fault causes.Damaged 0) (Ok tt)) }
 {
     if table.count() == 0 {
@@ -33,9 +34,10 @@ fn check_first(table: &EntryTable, bytes: &[u8]) -> Result<(), Fault>
 
 // Applies a source whose stream is the canonical one of its difference to the image of a store. A
 // fault of the store is in entry 0.
-fn apply_source<S: Store>(source: Source, store: &mut S) -> Result<(), Fault>
+pub(crate) fn apply_source<S: Store>(source: Source, store: &mut S) -> Result<(), Fault>
     requires sourced { Sourced Later source }
-    requires own { Own source }
+    requires means { meaning source.bytes.now ≡ Ok (source_difference source) }
+    requires own { canonical (source_difference source) ≡ source.bytes.now }
     ensures same { S.holds store.new ≡ S.holds store.old }
     ensures answer { result ≡ fault_by (in_entry 0) (settle_by (S.holds store.old) (S.image store.old) (Ok (source_difference source.entry))).0 }
     ensures image { S.image store.new ≡ (settle_by (S.holds store.old) (S.image store.old) (Ok (source_difference source.entry))).1 }

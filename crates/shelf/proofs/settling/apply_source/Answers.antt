@@ -10,7 +10,7 @@ apply_parts-requires g c = well_parted Later c.args.source c.requires.sourced
 pub returns : goal.returns
 returns g c =
     let m = g.S.Store in
-    let is = c.apply_parts.ensures.outcome ∙ source_outcome Later c.args.source c.requires.sourced c.requires.own.means c.requires.own.own (m.holds c.args.store.now) (m.image c.args.store.now) in
+    let is = c.apply_parts.ensures.outcome ∙ source_outcome Later c.args.source c.requires.sourced c.requires.means c.requires.own (m.holds c.args.store.now) (m.image c.args.store.now) in
     record {
       same = c.apply_parts.ensures.same;
       answer = c.in_entry.ensures ∙ ap (λ o. fault_by (in_entry 0) o.0) is;
