@@ -32,10 +32,8 @@ def respelled(name):
     if name in APART:
         return APART[name]
     name = name.replace("\u2032", "'")
-    if "-" not in name:
-        return name
     if name[0].isupper():
-        first, *rest = name.split("-")
+        first, *rest = re.split("[-_]", name)
         return first + "".join(w[:1].upper() + w[1:] for w in rest)
     return name.replace("-", "_")
 

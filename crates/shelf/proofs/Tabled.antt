@@ -1,7 +1,7 @@
 -- The laws of the operations on a table.
 use Rattle.std.proofs.Common.{◌≡◌, ℕ, zero, suc, ◌+◌, ◌-◌, ◌<◌, ◌≤◌, List, [], ◌∷◌, ◌++◌, map, length, get_or, take, drop, sym, refl, ap, ◌∙◌, subst, add-one, arith}
 use Rattle.std.proofs.lemmas.List.{length-append, length-map, length-take, length-drop, get_or_at, get_or_append_left, get_or-append_right, get_or-take, get_or-drop, get_or-map}
-use Rattle.table.specs.Tables.{Row, Table, end_of, no_row, row_at, last_name, fill_after, moved, one_row, unite_rows, drop_row, EndToEnd, Laid_out, Chained, LeadsOn}
+use Rattle.table.specs.Tables.{Row, Table, end_of, no_row, row_at, last_name, fill_after, moved, one_row, unite_rows, drop_row, EndToEnd, LaidOut, Chained, LeadsOn}
 use Rattle.shelf.specs.TableLaws.{LawsOfTables}
 use Rattle.table.proofs.Ends.{ends_le, ends_append, ends_moved, ends_inside, ends_next}
 use Rattle.shelf.proofs.Pieces.{AroundTwo, around_two, take_before, getD_here, getD_next, drop_behind}
@@ -38,7 +38,7 @@ module _ (base : List ℕ) (fill : ℕ) (pre : List Row) (r s : Row) (bs : List 
   pub united_as : unite_rows parted i n ≡ record { base = base; rows = pre ++ (one_row n r s ∷ map (moved (end_of s) (r.place + n)) bs); fill = fill_after fill r.place (end_of s) n }
   united_as = rw (take_before pre r s bs no_row i e, getD_here pre r s bs no_row i e, getD_next pre r s bs no_row i e, drop_behind pre r s bs no_row i e) refl
 
-  united_laid : Laid_out parted → Laid_out (unite_rows parted i n)
+  united_laid : LaidOut parted → LaidOut (unite_rows parted i n)
   united_laid h =
       let cut = ends_split 0 fill pre (r ∷ s ∷ bs) h.end_to_end in
       let at = cut.2.0 in
@@ -70,10 +70,10 @@ module _ (t : Table) (i n : ℕ) (l : i + 1 < length t.rows) where
   cut : AroundTwo t.rows i
   cut = around_two t.rows i l
 
-  united_laid_out : Laid_out t → Laid_out (unite_rows t i n)
+  united_laid_out : LaidOut t → LaidOut (unite_rows t i n)
   united_laid_out h =
-      (by_rows (λ x. Laid_out (unite_rows x i n)) t _ cut.whole).0
-      (united_laid t.base t.fill cut.before cut.here cut.next cut.behind i n cut.count ((by_rows Laid_out t _ cut.whole).1 h))
+      (by_rows (λ x. LaidOut (unite_rows x i n)) t _ cut.whole).0
+      (united_laid t.base t.fill cut.before cut.here cut.next cut.behind i n cut.count ((by_rows LaidOut t _ cut.whole).1 h))
 
   united_leads_on : LeadsOn t → LeadsOn (unite_rows t i n)
   united_leads_on h =
@@ -106,7 +106,7 @@ module _ (t : Table) (i n : ℕ) (l : i + 1 < length t.rows) where
       ∙ ap f (get_or-drop (i + 2) t.rows (k - suc i) no_row ∙ ap (λ j. get_or t.rows j no_row) place)
 
 -- the first row leaves
-dropped_laid : (base : List ℕ) (rs : List Row) (fill : ℕ) → 0 < length rs → EndToEnd 0 rs fill → length rs ≤ 64 → Laid_out (drop_row (record { base = base; rows = rs; fill = fill }))
+dropped_laid : (base : List ℕ) (rs : List Row) (fill : ℕ) → 0 < length rs → EndToEnd 0 rs fill → length rs ≤ 64 → LaidOut (drop_row (record { base = base; rows = rs; fill = fill }))
 dropped_laid base [] fill l h f = absurd (omega arith)
 dropped_laid base (r ∷ rs) fill l h f =
     let start : 0 + (end_of r - end_of r) ≡ 0 = omega arith in

@@ -1,17 +1,17 @@
 -- What the operations on a table keep: the entries lie end to end and their names meet, and rows that are not touched stay, or move and nothing else.
 -- Rests on Tables.
 use Rattle.std.specs.Prelude.{◌≡◌, ℕ, suc, ◌+◌, ◌<◌, ◌≤◌, List, length}
-use Rattle.table.specs.Tables.{Table, empty_table, end_of, row_at, next_name, moved, one_row, add_row, unite_rows, drop_row, Laid_out, LeadsOn}
+use Rattle.table.specs.Tables.{Table, empty_table, end_of, row_at, next_name, moved, one_row, add_row, unite_rows, drop_row, LaidOut, LeadsOn}
 
 pub record LawsOfTables : Type 0 where
   -- an empty table, and a table after each operation, is laid out
-  pub empty : (name : List ℕ) → Laid_out (empty_table name)
-  pub added : (t : Table) (n : ℕ) (from to : List ℕ) → Laid_out t → length t.rows < 64 → Laid_out (add_row t n from to)
-  pub united : (t : Table) (i n : ℕ) → Laid_out t → i + 1 < length t.rows → Laid_out (unite_rows t i n)
-  pub dropped : (t : Table) → Laid_out t → 0 < length t.rows → Laid_out (drop_row t)
+  pub empty : (name : List ℕ) → LaidOut (empty_table name)
+  pub added : (t : Table) (n : ℕ) (from to : List ℕ) → LaidOut t → length t.rows < 64 → LaidOut (add_row t n from to)
+  pub united : (t : Table) (i n : ℕ) → LaidOut t → i + 1 < length t.rows → LaidOut (unite_rows t i n)
+  pub dropped : (t : Table) → LaidOut t → 0 < length t.rows → LaidOut (drop_row t)
   -- an entry lies within the fill, and its neighbour begins where it ends
-  pub inside : (t : Table) (i : ℕ) → Laid_out t → i < length t.rows → end_of (row_at t i) ≤ t.fill
-  pub next : (t : Table) (i : ℕ) → Laid_out t → i + 1 < length t.rows → (row_at t (i + 1)).place ≡ end_of (row_at t i)
+  pub inside : (t : Table) (i : ℕ) → LaidOut t → i < length t.rows → end_of (row_at t i) ≤ t.fill
+  pub next : (t : Table) (i : ℕ) → LaidOut t → i + 1 < length t.rows → (row_at t (i + 1)).place ≡ end_of (row_at t i)
   -- the names still meet
   pub added_leads : (t : Table) (n : ℕ) (from to : List ℕ) → LeadsOn t → from ≡ next_name t → LeadsOn (add_row t n from to)
   pub united_leads : (t : Table) (i n : ℕ) → LeadsOn t → i + 1 < length t.rows → LeadsOn (unite_rows t i n)

@@ -1,7 +1,7 @@
 -- The rows of the entries in use, and that every table of entries is laid out.
 use Rattle.std.proofs.Common.{◌≡◌, ℕ, suc, ◌+◌, ◌-◌, ◌<◌, ◌≤◌, List, [], ◌∷◌, map, length, get_or, take, sym, refl, ap, ◌∙◌, add-one, arith}
 use Rattle.std.proofs.lemmas.List.{length-map, length-take, length-take-le, get_or-map}
-use Rattle.table.specs.Tables.{end_of, no_row, row_at, last_name, moved, Laid_out}
+use Rattle.table.specs.Tables.{end_of, no_row, row_at, last_name, moved, LaidOut}
 use Rattle.table.specs.Names.{name_of}
 use Rattle.table.specs.Entries.{row_of, rows_of, no_entry, moved_entry}
 use Rattle.table.specs.Held.{table_of, Live}
@@ -9,7 +9,7 @@ use Rattle.table.specs.declared.entry.Entry.{Entry}
 use Rattle.table.specs.declared.table.EntryTable.{EntryTable}
 use Rattle.table.proofs.Ends.{ends_from_test, ends_inside, ends_next}
 
-pub laid_out : (t : EntryTable) → Laid_out (table_of t)
+pub laid_out : (t : EntryTable) → LaidOut (table_of t)
 laid_out t = record {
   end_to_end = ends_from_test 0 t.fill (rows_of t.count t.entries) t.ends;
   few = let h = t.few in omega (arith, length-map (take t.count t.entries) row_of, length-take t.count t.entries);

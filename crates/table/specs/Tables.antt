@@ -89,7 +89,7 @@ EndToEnd place [] end = place ≡ end
 EndToEnd place (r ∷ rs) end = (r.place ≡ place) × EndToEnd (end_of r) rs end
 
 -- at most 64 entries, end to end from 0 up to the fill
-pub record Laid_out (t : Table) : Type 0 where
+pub record LaidOut (t : Table) : Type 0 where
   pub end_to_end : EndToEnd 0 t.rows t.fill
   pub few : length t.rows ≤ 64
 
