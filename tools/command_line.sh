@@ -7,11 +7,11 @@ cd "$(dirname "$0")/.."
 home=$PWD
 work=$(mktemp -d)
 trap 'rm -rf "$work"' EXIT
-if ! rt check lovgwarzh >"$work/log" 2>&1; then
+if ! (cd crates/lovgwarzh && rt run -- help) >"$work/log" 2>&1; then
     cat "$work/log"
     exit 1
 fi
-program=$home/target/bin/lovgwarzh
+program=$home/crates/lovgwarzh/out/lovgwarzh
 cd "$work"
 mkdir want folder
 
@@ -252,14 +252,17 @@ lacks apply-missing missing
 run apply-link 1 apply first a link
 holds apply-link kept second
 
-cp "$home/crates/lovgwarzh/stdout" want/tour.out
+cp "$home/crates/lovgwarzh/stdout" want/streams.out
+: >want/streams.err
+run streams 0
+cp "$home/tools/tour.txt" want/tour.out
 : >want/tour.err
 run tour 0 tour
 "$program" help >want/help.out
 : >want/help.err
 verdict "help: usage" grep -q '^usage: lovgwarzh ' want/help.out
-run help 0
 run help 0 help
+run help 0 -h
 run help 0 --help
 : >want/usage.out
 cp want/help.out want/usage.err

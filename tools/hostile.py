@@ -3,7 +3,7 @@
 
 All six numbers and every byte of each buffer are compared with tools/reference.py, which was written from docs/ alone. Usage:
 
-    rt staticlib lovgwarzh_c && python3 tools/hostile.py [HOW MANY] [SEED]
+    (cd crates/lovgwarzh_c && rt lib) && python3 tools/hostile.py [HOW MANY] [SEED]
 
 Prints how often each cause came, and the differences found; status 1 if there is one."""
 import collections
@@ -17,7 +17,7 @@ import reference as ref
 from reference import HEADER, LIMIT, data_record, name_record, size_record, stream, write, zero
 
 HOME = Path(__file__).resolve().parent.parent
-ARCHIVE = HOME / "target" / "staticlib" / "liblovgwarzh_c.a"
+ARCHIVE = HOME / "crates" / "lovgwarzh_c" / "out" / "liblovgwarzh_c.a"
 LIBRARY = HOME / "target" / "liblovgwarzh.so"
 FILL = 0xA5
 
@@ -30,6 +30,7 @@ class Answer(ctypes.Structure):
 
 
 def load():
+    LIBRARY.parent.mkdir(exist_ok=True)
     subprocess.run(["gcc", "-shared", "-o", LIBRARY, "-Wl,--whole-archive", ARCHIVE, "-Wl,--no-whole-archive"], check=True)
     calls = ctypes.CDLL(str(LIBRARY))
     for call in (calls.lovgwarzh_check, calls.lovgwarzh_list, calls.lovgwarzh_join):

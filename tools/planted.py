@@ -4,8 +4,8 @@
     tools/planted.py [CRATE..]        the bugs of tools/planted/CRATE.txt, or of all crates
     tools/planted.py --edits CRATE..  the edits of crates/CRATE/must-fail instead
 
-It works in a copy of the repository, by the quick loop of the kit (`rt dev`), which takes over what an edit does not
-touch: a first look at an edit is much cheaper than in the gate. A bug is a block of lines
+It works in a copy of the repository, by `rt check`, which takes over what an edit does not touch: a first look at an
+edit is much cheaper than in the gate. A bug is a block of lines
 `name`, `file: PATH`, `old: TEXT`, `new: TEXT`, and blocks are apart by an empty line; OLD stands once in the file."""
 import re
 import shutil
@@ -16,6 +16,7 @@ import time
 from pathlib import Path
 
 HOME = Path(__file__).resolve().parent.parent
+PROVED = "SURVIVED"
 
 
 def blocks(crate, edits):
@@ -35,13 +36,16 @@ def bugs(crate, edits):
 
 
 def check(copy, crate):
-    """Whether the crate is proved, and the place of the first refusal."""
-    run = subprocess.run(["rt", "dev", crate], cwd=copy, capture_output=True, text=True)
+    """What the check says, and the place of the first refusal, or the function where no place is told."""
+    run = subprocess.run(["rt", "check"], cwd=copy / "crates" / crate, capture_output=True, text=True)
     said = run.stdout + run.stderr
     if run.returncode == 0:
-        return True, ""
-    places = re.findall(rf"crates/{crate}/((?:src|proofs|specs)/[^:\s]*:\d+)[^\n]*(?:error|not proved)", said)
-    return False, places[0] if places else "no place told"
+        return PROVED
+    if run.returncode != 1:
+        return f"NOT JUDGED (status {run.returncode})"
+    places = re.findall(r"((?:src|proofs|specs)/[^:\s]*:\d+)(?::\d+)?: (?:error|it is not proved)", said)
+    places += re.findall(r"^fn (\S+): no proof", said, re.MULTILINE)
+    return f"refused (first at {places[0] if places else 'no place told'})"
 
 
 def plant(copy, crate, bug):
@@ -52,9 +56,8 @@ def plant(copy, crate, bug):
         return f"{crate}/{name}: BAD: the old text stands {before.count(old)} times"
     path.write_text(before.replace(old, new))
     start = time.time()
-    proved, place = check(copy, crate)
+    verdict = check(copy, crate)
     path.write_text(before)
-    verdict = "SURVIVED" if proved else f"refused (first at {place})"
     return f"{crate}/{name}: {verdict}, {time.time() - start:.0f} s"
 
 
@@ -65,15 +68,18 @@ def main():
     planted = survived = 0
     with tempfile.TemporaryDirectory() as folder:
         copy = Path(folder) / "copy"
-        shutil.copytree(HOME, copy, ignore=shutil.ignore_patterns(".git"))
+        shutil.copytree(HOME, copy, ignore=shutil.ignore_patterns(".git", "out", "target"))
         for crate in crates:
-            check(copy, crate)
+            if check(copy, crate) != PROVED:
+                print(f"{crate}: not proved as it stands", flush=True)
+                survived += 1
+                continue
             for bug in bugs(crate, edits):
                 said = plant(copy, crate, bug)
                 print(said, flush=True)
                 planted += 1
-                survived += "refused" not in said
-    print(f"planted {planted}, still proved or not planted {survived}")
+                survived += ": refused (" not in said
+    print(f"planted {planted}, still proved, not judged or not planted {survived}")
     return 1 if survived else 0
 
 
