@@ -1,7 +1,7 @@
 /* Joins two difference streams and prints the list of the result.
  *
- *   rt staticlib lovgwarzh_c
- *   gcc -Iinclude -o target/join examples/join.c target/staticlib/liblovgwarzh_c.a && target/join
+ *   (cd crates/lovgwarzh_c && rt lib) && mkdir -p target
+ *   gcc -Iinclude -o target/join examples/join.c crates/lovgwarzh_c/out/liblovgwarzh_c.a && target/join
  */
 #include <stdio.h>
 #include <string.h>

@@ -1,6 +1,6 @@
 /* Lovgwarzh for C: checks, lists and joins difference streams.
  *
- * `rt staticlib lovgwarzh_c` writes target/staticlib/liblovgwarzh_c.a; link it, nothing else is needed.
+ * `rt lib` in crates/lovgwarzh_c writes out/liblovgwarzh_c.a there; link it, nothing else is needed.
  * The calls allocate nothing, keep nothing between calls, and read and write only what they are handed.
  * A pointer may be NULL where its length is 0. The buffers of one call must not overlap. */
 #ifndef LOVGWARZH_H
