@@ -11,7 +11,6 @@ use Rattle.stream.specs.declared.kinds.Record.{Record}
 use Rattle.stream.specs.declared.kinds.Record.TheVariants.{From, To, Size, Write, Zero}
 use Rattle.fault.specs.Fault.{then}
 use Rattle.fault.specs.declared.kinds.Fault.{Fault}
-use Rattle.fault.specs.declared.kinds.Cause.TheVariants as causes
 
 -- a number of four bytes, and of eight, is read as it was written
 le_four : (v : ℕ) → v < 2 ^ 32 → le (le_bytes 4 v) ≡ v

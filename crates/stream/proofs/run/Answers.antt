@@ -1,7 +1,7 @@
 use Rattle.std.proofs.Common.{◌≡◌, suc, ◌-◌, length, drop, Ok, sym, refl, ap, ◌∙◌, arith}
 use Rattle.std.proofs.lemmas.Result.{err_from_is_err_and}
 use Rattle.stream.specs.Steps.{step_of}
-use Rattle.stream.specs.Verdict.{reads, onward, checked}
+use Rattle.stream.specs.Verdict.{reads, checked}
 use Rattle.stream.specs.Stands.{pos_of, rest_of}
 use Rattle.stream.proofs.Ran.{stepped, refused, goes_on, ends, ends_early}
 use Rattle.stream.proofs.run.Goals as goal

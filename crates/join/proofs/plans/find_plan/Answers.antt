@@ -1,4 +1,4 @@
-use Rattle.std.proofs.Common.{◌≡◌, ℕ, ◌-◌, length, take, Ok, sym, ap, ◌∙◌, ap₂, arith}
+use Rattle.std.proofs.Common.{◌≡◌, ℕ, ◌-◌, take, Ok, sym, ap, ◌∙◌, ap₂, arith}
 use Rattle.join.specs.declared.plans.Plan.{Plan}
 use Rattle.join.specs.Sources.{source_join}
 use Rattle.join.specs.Joins.{plan_of}

@@ -1,7 +1,7 @@
 use Rattle.std.proofs.Common.{◌≡◌, ℕ, suc, ◌-◌, length, drop, Ok, sym, refl, ap, ◌∙◌, subst, ap₂, arith, length-drop}
 use Rattle.std.proofs.lemmas.Result.{err_from_is_err_and}
 use Rattle.stream.specs.Steps.{step_of, Lies}
-use Rattle.stream.specs.Verdict.{reads, onward}
+use Rattle.stream.specs.Verdict.{reads}
 use Rattle.stream.specs.Gathered.{gathered_from, gathered_of}
 use Rattle.stream.specs.Stands.{pos_of, rest_of}
 use Rattle.stream.proofs.Ran.{stepped, refused, ends, ends_early}
