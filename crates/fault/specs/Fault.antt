@@ -36,7 +36,7 @@ layer_number Join = 2
 layer_number Store = 3
 layer_number Shelf = 4
 
--- the layer that gives each cause; `at-layer` says where a call names another: a bad name where a shelf is made (Shelf), names that do not
+-- the layer that gives each cause; `at_layer` says where a call names another: a bad name where a shelf is made (Shelf), names that do not
 -- meet in a put (Shelf), and a buffer too short for a joined stream (Join) or for the shelf's bytes (Shelf)
 abbrev pub layer_of : Cause → Layer
 layer_of Header = Stream

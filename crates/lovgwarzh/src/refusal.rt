@@ -42,6 +42,6 @@ fn words_for(cause: Cause) -> &'static str {
         Cause::ShelfFull => "the shelf is full",
         Cause::NoEntry => "no such entry",
         Cause::NameTaken => "the name is taken",
-        Cause::Damaged => "the shelf's bytes are cut short or damaged",
+        Cause::Damaged => "the shelf's bytes are damaged",
     }
 }

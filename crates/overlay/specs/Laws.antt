@@ -33,6 +33,6 @@ MapsThroughAll M N =
 abbrev pub OneRuns : {M : Type 0} → (M → ℕ → M) → Type 0
 OneRuns {M} moves = (ds : List (Option M)) (xs ys : List (Run M)) → Runs moves ds xs → Runs moves ds ys → xs ≡ ys
 
--- a difference of fewer than 2^64 positions has canonical runs: `runs-from` gives them
+-- a difference of fewer than 2^64 positions has canonical runs: `runs_from` gives them
 abbrev pub RunsExist : {M : Type 0} → (M → ℕ → M) → (M → M → Bool) → Type 0
 RunsExist {M} moves alike = (ds : List (Option M)) → length ds < 2 ^ 64 → Runs moves ds (runs_from moves alike 0 ds)

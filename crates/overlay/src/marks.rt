@@ -15,7 +15,7 @@ pub trait Mark: Sized {
 
     const FILLER: Self;
 
-    // The constant FILLER. A clause cannot name the constant, so the filler's meaning is said here.
+    // The constant FILLER, whose meaning the ghost member `filler` says.
     fn fill() -> Self
         ensures { result ≡ filler };
 

@@ -23,13 +23,12 @@ fn digit(b: u8) -> anyhow::Result<u8>
 
 // The digit of a number below 16.
 fn letter(n: u8) -> char
-    requires { n < 16 }
-    ensures { result ≡ digit_of n }
+    ensures { n < 16 → result ≡ digit_of n }
 {
-    if n < 10 {
-        (b'0' + n) as char
-    } else {
-        (b'a' + (n - 10)) as char
+    match n {
+        0..=9 => (b'0' + n) as char,
+        10..=15 => (b'a' + (n - 10)) as char,
+        _ => '?',
     }
 }
 
@@ -40,9 +39,6 @@ pub fn decoded(heap: Global, word: &str) -> anyhow::Result<Vec<u8>> {
         return Ok(bytes);
     }
     let text = word.as_bytes();
-    if text.len() % 2 != 0 {
-        return Err(anyhow!("half a byte in a word"));
-    }
     for i in 0..text.len() / 2 {
         let high = digit(text[2 * i])?;
         let low = digit(text[2 * i + 1])?;
