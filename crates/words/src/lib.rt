@@ -4,6 +4,7 @@
 ghost use Rattle.std.specs.Prelude.{◌≡◌, ◌<◌, IfOk, string_bytes};
 ghost use Rattle.words.specs.Digits.{digit_of};
 ghost use Rattle.words.specs.Numbers.{numbers_of};
+ghost use Rattle.words.specs.Spelling.{digits_of, pairs_in, word_of};
 
 use anyhow::anyhow;
 use fault::Fault;
@@ -32,32 +33,47 @@ fn letter(n: u8) -> char
     }
 }
 
-// The bytes that a word writes; `-` stands for none.
-pub fn decoded(heap: Global, word: &str) -> anyhow::Result<Vec<u8>> {
+// The bytes that the pairs of digits in a text spell.
+fn read_pairs(heap: Global, text: &[u8]) -> anyhow::Result<Vec<u8>>
+    ensures { IfOk result (λ bytes. digits_of bytes.items ≡ pairs_in text.now) }
+{
     let mut bytes = Vec::new(heap);
-    if word == "-" {
-        return Ok(bytes);
-    }
-    let text = word.as_bytes();
     for i in 0..text.len() / 2 {
         let high = digit(text[2 * i])?;
         let low = digit(text[2 * i + 1])?;
-        bytes.push(high << 4 | low)?;
+        bytes.push(16 * high + low)?;
     }
     Ok(bytes)
 }
 
-// Bytes as a word.
-pub fn encoded(heap: Global, bytes: &[u8]) -> anyhow::Result<String> {
-    let mut word = String::new(heap);
-    if bytes.is_empty() {
-        word.push('-')?;
-    }
+// The bytes of a word; a last character without a second, as the `-` that stands for no bytes, is left out.
+pub fn decoded(heap: Global, word: &str) -> anyhow::Result<Vec<u8>>
+    ensures { IfOk result (λ bytes. digits_of bytes.items ≡ pairs_in word.now) }
+{
+    read_pairs(heap, word.as_bytes())
+}
+
+// The two digits of each byte.
+fn spell(heap: Global, bytes: &[u8]) -> anyhow::Result<String>
+    ensures { IfOk result (λ digits. string_bytes digits ≡ digits_of bytes.now) }
+{
+    let mut digits = String::new(heap);
     for b in bytes {
-        word.push(letter(*b >> 4))?;
-        word.push(letter(*b & 15))?;
+        digits.push(letter(*b / 16))?;
+        digits.push(letter(*b % 16))?;
     }
-    Ok(word)
+    Ok(digits)
+}
+
+// Bytes as a word.
+#[tactic(auto, using(crate::proofs::Spelled::word_some))]
+pub fn encoded(heap: Global, bytes: &[u8]) -> anyhow::Result<String>
+    ensures { IfOk result (λ word. string_bytes word ≡ word_of bytes.now) }
+{
+    if bytes.is_empty() {
+        return Ok(String::from_str(heap, "-")?);
+    }
+    spell(heap, bytes)
 }
 
 // The five numbers of a fault, in decimal, single spaces between.
