@@ -1,7 +1,7 @@
 -- The parts that begin inside a range lie side by side, behind those of the ranges before it. Rests on the steps and on rising runs.
-use Rattle.std.proofs.Common.{◌≡◌, ℕ, zero, suc, ◌+◌, ◌-◌, ◌<◌, ◌≤◌, ◌&&◌, ltb, leb, List, [], ◌∷◌, ◌++◌, map, length, get_or, take, drop, sym, refl, ap, ◌∙◌, ap₂, inl, inr, one-add, arith}
+use Rattle.std.proofs.Common.{◌≡◌, ℕ, zero, suc, ◌+◌, ◌<◌, ◌≤◌, ◌&&◌, ltb, leb, List, [], ◌∷◌, ◌++◌, map, length, get_or, take, drop, sym, refl, ap, ◌∙◌, ap₂, inl, inr, one-add, arith}
 use Rattle.std.specs.List.{prefix_len}
-use Rattle.std.proofs.lemmas.List.{drop-drop, drop_more}
+use Rattle.std.proofs.lemmas.List.{drop_more}
 use Rattle.std.proofs.lemmas.Bool.{cases_lt, lt-ltb, le-ltb, le-leb, lt-leb, cond-true, cond-false, and_from, and_left, and_right}
 use Rattle.overlay.specs.declared.runs.Run.{Run}
 use Rattle.overlay.specs.declared.ranges.RangeMark.{RangeMark}
@@ -14,8 +14,7 @@ use Rattle.stream.specs.Records.{Content}
 use Rattle.stream.specs.Places.{held, held_by}
 use Rattle.stream.specs.Parts.{PayloadIn, PayloadsIn}
 use Rattle.apply.specs.Steps.{numbered, handed, begins, begun_in, steps_from}
-use Rattle.apply.specs.declared.parts.Window.{Window}
-use Rattle.apply.specs.Read.{before, Inside}
+use Rattle.apply.specs.Read.{before}
 
 begins_by : (xs : List ℕ) (o n : ℕ) (m : PayloadMark) → begins (held_by xs o n m) ≡ o
 begins_by xs o n Zeroed = refl
@@ -134,26 +133,22 @@ payloads_take side xs zero rs h = tt
 payloads_take side xs (suc n) [] h = tt
 payloads_take side xs (suc n) (r ∷ rs) h = (h.0, payloads_take side xs n rs h.1)
 
--- the steps of the range at i are those of the parts in its window, and those behind it are of the parts behind the window
-pub window_steps : (bytes : List ℕ) (parts : List (Run PayloadMark)) (next b n : ℕ) (rs : List (Run RangeMark)) (i : ℕ) (d : Run RangeMark) (size : ℕ) (w : Window)
-    → i < length rs → Rising 0 parts b → Rising 0 rs size → Inside parts next (get_or rs i d) w
-    → steps_from n (map (held bytes) (drop next parts)) (drop i rs)
-    ≡ numbered n (handed (get_or rs i d).mark (get_or rs i d).offset (get_or rs i d).length (map (held bytes) (take (w.end - w.first) (drop w.first parts))))
-    ++ steps_from (n + 1) (map (held bytes) (drop w.end parts)) (drop (i + 1) rs)
-window_steps bytes parts next b n rs i d size w l rising rise inside =
-    let left = drop next parts in
+-- the steps of the range at i are those of the parts that begin inside it, and those behind it are of the parts behind
+pub window_steps : (bytes : List ℕ) (left : List (Run PayloadMark)) (b n : ℕ) (rs : List (Run RangeMark)) (i : ℕ) (d : Run RangeMark) (size : ℕ) (begun inside behind : List (Run PayloadMark))
+    → i < length rs → Rising 0 left b → Rising 0 rs size
+    → begun ≡ since (get_or rs i d).offset left → inside ≡ take (prefix_len (before (ends (get_or rs i d))) begun) begun → behind ≡ since (ends (get_or rs i d)) begun
+    → steps_from n (map (held bytes) left) (drop i rs)
+    ≡ numbered n (handed (get_or rs i d).mark (get_or rs i d).offset (get_or rs i d).length (map (held bytes) inside))
+    ++ steps_from (n + 1) (map (held bytes) behind) (drop (i + 1) rs)
+window_steps bytes left b n rs i d size begun inside behind l rising rise from here end =
     let r = get_or rs i d in
     let rest = drop (i + 1) rs in
     let later = (rising_at rs i d size l rise).2 in
-    let first : drop w.first parts ≡ since r.offset left = ap (λ k. drop k parts) inside.first ∙ sym (drop-drop (prefix_len (before r.offset) left) next parts) in
-    let end : drop w.end parts ≡ since (ends r) (since r.offset left) =
-    ap (λ k. drop k parts) inside.end ∙ sym (drop-drop (prefix_len (before (ends r)) (drop w.first parts)) w.first parts) ∙ ap (since (ends r)) first in
-    let count : w.end - w.first ≡ prefix_len (before (ends r)) (drop w.first parts) = omega (arith, inside.end) in
-    let cut : take (w.end - w.first) (drop w.first parts) ≡ take (prefix_len (before (ends r)) (since r.offset left)) (since r.offset left) =
-    ap (λ k. take k (drop w.first parts)) count ∙ ap (λ ys. take (prefix_len (before (ends r)) ys) ys) first in
+    let cut : inside ≡ take (prefix_len (before (ends r)) (since r.offset left)) (since r.offset left) = here ∙ ap (λ ys. take (prefix_len (before (ends r)) ys) ys) from in
+    let on : behind ≡ since (ends r) (since r.offset left) = end ∙ ap (since (ends r)) from in
     ap (steps_from n (map (held bytes) left)) (drop_more rs i d l)
     ∙ ap₂ (λ cs ss. numbered n (handed r.mark r.offset r.length cs) ++ ss)
-    (begun_are bytes r.offset r.length 0 b left (rising_drop b next parts rising) ∙ ap (map (held bytes)) (sym cut))
+    (begun_are bytes r.offset r.length 0 b left rising ∙ ap (map (held bytes)) (sym cut))
     (sym (steps_since bytes r.offset size (n + 1) left rest (rising_lower (ends r) r.offset size rest later (omega arith)))
     ∙ sym (steps_since bytes (ends r) size (n + 1) (since r.offset left) rest later)
-    ∙ ap (λ ys. steps_from (n + 1) (map (held bytes) ys) rest) (sym end))
+    ∙ ap (λ ys. steps_from (n + 1) (map (held bytes) ys) rest) (sym on))

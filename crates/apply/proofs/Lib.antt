@@ -1,6 +1,7 @@
 pub mod Ranged
 pub mod Turns
 pub mod Cursors
+mod Parted
 pub mod Readings
 pub mod Kept
 pub mod Outcomes

@@ -1,22 +1,19 @@
 -- A stream that was read into parts, and the steps that these come to. Rests on the stream's parts and on the steps.
-use Rattle.std.specs.Prelude.{◌≡◌, ℕ, ◌+◌, ◌≤◌, Bool, true, false, List, ◌∷◌, map, length, drop, Ok, Err, Result, nat_lt}
-use Rattle.std.specs.List.{prefix_len}
+use Rattle.std.specs.Prelude.{◌≡◌, ℕ, ◌≤◌, Bool, true, false, List, ◌∷◌, map, length, Ok, Err, Result, nat_lt}
 use Rattle.fault.specs.Fault.{fault}
 use Rattle.fault.specs.declared.kinds.Fault.{Fault}
 use Rattle.fault.specs.declared.kinds.Cause.TheVariants.{NamesDiffer}
 use Rattle.overlay.specs.declared.runs.Run.{Run}
-use Rattle.overlay.specs.declared.ranges.RangeMark.{RangeMark}
 use Rattle.overlay.specs.declared.payloads.PayloadMark.{PayloadMark}
 use Rattle.overlay.specs.declared.payloads.Side.{Side}
 use Rattle.overlay.specs.declared.payloads.Side.TheVariants.{Later}
-use Rattle.overlay.specs.Runs.{ends, Rising}
+use Rattle.overlay.specs.Runs.{Rising}
 use Rattle.stream.specs.Records.{image_size}
 use Rattle.stream.specs.Places.{held}
 use Rattle.stream.specs.Parts.{PayloadIn, PayloadsIn, part_ranges}
 use Rattle.stream.specs.Told.{Told}
 use Rattle.stream.specs.Verdict.{verdict}
 use Rattle.stream.specs.declared.kinds.Summary.{Summary}
-use Rattle.apply.specs.declared.parts.Window.{Window}
 use Rattle.apply.specs.Steps.{Step, steps_from}
 use Rattle.apply.specs.Applies.{led_from}
 
@@ -36,13 +33,6 @@ pub record WellParted (bytes : List ℕ) (parts : List (Run PayloadMark)) (size 
 -- whether a part begins before a position
 abbrev pub before : ℕ → Run PayloadMark → Bool
 before p part = nat_lt part.offset p
-
--- the parts from `next` on that begin inside a range: behind those that begin before it, as many as begin before its end
-pub record Inside (parts : List (Run PayloadMark)) (next : ℕ) (r : Run RangeMark) (w : Window) : Type 0 where
-  pub rises : w.first ≤ w.end
-  pub within : w.end ≤ length parts
-  pub first : w.first ≡ next + prefix_len (before r.offset) (drop next parts)
-  pub end : w.end ≡ w.first + prefix_len (before (ends r)) (drop w.first parts)
 
 -- the steps of parts: the size as record 0, then the ranges that the parts come to, numbered from 1
 abbrev pub part_steps : List ℕ → List (Run PayloadMark) → ℕ → List Step

@@ -4,14 +4,14 @@
 
 ghost use Rattle.std.specs.Prelude.{◌≡◌};
 ghost use Rattle.apply.specs.Applies.{apply_steps, apply_read, apply_answer};
-ghost use Rattle.apply.specs.Read.{WellParted, part_steps};
+ghost use Rattle.apply.specs.Read.{part_steps};
 ghost use Rattle.apply.specs.Laws.{AppliesExactly, OnlyKept, StopsHarmless};
 ghost use Rattle.overlay.specs.declared.payloads.Side.TheVariants.{Later};
 ghost use Rattle.stream.specs.Told.{Told};
 ghost use Rattle.stream.specs.Verdict.{verdict};
 
 use fault::Fault;
-use overlay::{PayloadMark, RangeMark, Run};
+use overlay::{PayloadMark, RangeMark, Run, Sheet};
 use ranges::{apply_ranges, resize_first};
 use reading::{read_from, rising_ranges};
 use store::Store;
@@ -27,18 +27,13 @@ pub use parts::StreamParts;
 // to is one canonical record; a fault of the store tells its number, or 0 where the image cannot be
 // resized. At a refusal what came before stands, and nothing else is done.
 pub fn apply_parts<S: Store>(stream: StreamParts, store: &mut S) -> Result<(), Fault>
-    requires { WellParted stream.bytes.now stream.parts.now stream.size }
     ensures same { S.holds store.new ≡ S.holds store.old }
-    ensures outcome { (result, S.image store.new) ≡ apply_steps (S.holds store.old) (S.image store.old) (part_steps stream.entry.bytes.now stream.entry.parts.now stream.entry.size) }
+    ensures outcome { (result, S.image store.new) ≡ apply_steps (S.holds store.old) (S.image store.old) (part_steps stream.entry.bytes.now stream.entry.sheet.runs.now stream.entry.sheet.size) }
 {
-    let mut ranges = [Run {
-        offset: 0,
-        length: 0,
-        mark: RangeMark::Zeroed,
-    }; MOST_RANGES];
+    let mut ranges = [Run::<RangeMark>::NONE; MOST_RANGES];
     let count = rising_ranges(stream, &mut ranges);
-    resize_first(stream.size, store)?;
-    apply_ranges(stream, &ranges[0..count], store)
+    resize_first(stream.sheet.size, store)?;
+    apply_ranges(stream, &ranges[..count], store)
 }
 
 // The same, by what the stream's records say.
@@ -52,11 +47,13 @@ fn apply_told<S: Store>(
     ensures same { S.holds store.new ≡ S.holds store.old }
     ensures outcome { (result, S.image store.new) ≡ apply_read (S.holds store.old) (S.image store.old) (verdict stream.now) }
 {
-    let count = summary.count;
+    let sheet = Sheet {
+        runs: &parts[..summary.count],
+        size: summary.size,
+    };
     let read = StreamParts {
         bytes: stream,
-        parts: &parts[0..count],
-        size: summary.size,
+        sheet,
     };
     apply_parts(read, store)
 }
@@ -67,11 +64,7 @@ pub fn apply<S: Store>(stream: &[u8], name: &[u8], store: &mut S) -> Result<(), 
     ensures same { S.holds store.new ≡ S.holds store.old }
     ensures outcome { (result, S.image store.new) ≡ apply_answer (S.holds store.old) (S.image store.old) name.now stream.now }
 {
-    let mut parts = [Run {
-        offset: 0,
-        length: 0,
-        mark: PayloadMark::Zeroed,
-    }; MOST_RECORDS];
+    let mut parts = [Run::<PayloadMark>::NONE; MOST_RECORDS];
     let summary = read_from(stream, name, &mut parts)?;
     apply_told(stream, &parts, summary, store)
 }

@@ -1,17 +1,52 @@
-use overlay::{PayloadMark, Run};
+ghost use Rattle.std.specs.Prelude.{◌≡◌, ◌≤◌, take, drop, length};
+ghost use Rattle.std.specs.List.{prefix_len};
+ghost use Rattle.apply.specs.Read.{WellParted, before};
 
-// A stream as it was read: its bytes, its data records as parts whose payload lies in these bytes, and
-// the size of the image afterwards.
+use overlay::{PayloadMark, Sheet};
+
+// A stream as it was read: its bytes, and its data records as a sheet whose payload lies in these bytes,
+// below the size of the image afterwards. Some of its parts, side by side, are such parts too.
 #[derive(Clone, Copy)]
 pub struct StreamParts<'s, 'r> {
     pub bytes: &'s [u8],
-    pub parts: &'r [Run<PayloadMark>],
-    pub size: u64,
+    pub sheet: Sheet<'r, PayloadMark>,
+    pub ghost parted: { ∥ WellParted bytes.now sheet.runs.now sheet.size ∥₁ },
 }
 
-// Some of the parts, side by side: the first of them, and the first behind them.
-#[derive(Clone, Copy)]
-pub struct Window {
-    pub first: usize,
-    pub end: usize,
+impl<'s, 'r> StreamParts<'s, 'r> {
+    // How many parts at the front begin before a position.
+    fn count_before(self, position: u64) -> usize
+        ensures within { result ≤ length self.entry.sheet.runs.now }
+        ensures count { result ≡ prefix_len (before position) self.entry.sheet.runs.now }
+    {
+        self.sheet
+            .runs
+            .iter()
+            .take_while(|part| part.offset < position)
+            .count()
+    }
+
+    // The parts at the front that begin before a position, and those behind them.
+    pub(crate) fn split_before(self, position: u64) -> (StreamParts<'s, 'r>, StreamParts<'s, 'r>)
+        ensures bytes { (result.0.bytes.now ≡ self.entry.bytes.now) × (result.1.bytes.now ≡ self.entry.bytes.now) }
+        ensures size { (result.0.sheet.size ≡ self.entry.sheet.size) × (result.1.sheet.size ≡ self.entry.sheet.size) }
+        ensures front { result.0.sheet.runs.now ≡ take (prefix_len (before position) self.entry.sheet.runs.now) self.entry.sheet.runs.now }
+        ensures back { result.1.sheet.runs.now ≡ drop (prefix_len (before position) self.entry.sheet.runs.now) self.entry.sheet.runs.now }
+    {
+        let StreamParts { bytes, sheet } = self;
+        let (front, back) = sheet.runs.split_at(self.count_before(position));
+        let size = sheet.size;
+        let before = Sheet { runs: front, size };
+        let behind = Sheet { runs: back, size };
+        (
+            StreamParts {
+                bytes,
+                sheet: before,
+            },
+            StreamParts {
+                bytes,
+                sheet: behind,
+            },
+        )
+    }
 }

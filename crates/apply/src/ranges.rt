@@ -1,13 +1,12 @@
-ghost use Rattle.std.specs.Prelude.{◌≡◌, ◌^◌, ◌<◌, ◌≤◌, [], ◌∷◌, map, length};
-ghost use Rattle.std.specs.List.{prefix_len};
+ghost use Rattle.std.specs.Prelude.{◌≡◌, [], ◌∷◌, map};
 ghost use Rattle.apply.specs.Applies.{apply_steps, outcome_in_record};
-ghost use Rattle.apply.specs.Read.{Lies, AllLie, before, Inside, WellParted};
+ghost use Rattle.apply.specs.Read.{Lies};
 ghost use Rattle.apply.specs.Steps.{numbered, writes, handed, steps_from};
-ghost use Rattle.overlay.specs.Runs.{ends, Rising};
+ghost use Rattle.overlay.specs.Runs.{Rising};
 ghost use Rattle.store.specs.Stores.{resize_outcome};
 ghost use Rattle.stream.specs.Places.{held};
 
-use crate::parts::{StreamParts, Window};
+use crate::parts::StreamParts;
 use fault::{Fault, Located};
 use overlay::{PayloadMark, RangeMark, Run, payload};
 use store::Store;
@@ -31,68 +30,38 @@ fn write_part<S: Store>(
     ensures same { S.holds store.new ≡ S.holds store.old }
     ensures outcome { (result, S.image store.new) ≡ apply_steps (S.holds store.old) (S.image store.old) (numbered «record» (writes (held stream.now part ∷ []))) }
 {
-    match payload(stream, stream, part) {
-        Some((_, bytes)) => store.write(part.offset, bytes).in_record(record),
-        None => Ok(()),
-    }
+    let Some((_, bytes)) = payload(stream, stream, part) else {
+        return Ok(());
+    };
+    store.write(part.offset, bytes).in_record(record)
 }
 
-// Writes the payloads of parts in turn.
-fn write_parts<S: Store>(
-    stream: &[u8],
-    parts: &[Run<PayloadMark>],
-    record: u64,
-    store: &mut S,
-) -> Result<(), Fault>
-    requires { AllLie stream.now parts.now }
+// Writes the payloads of a stream's parts in turn.
+fn write_parts<S: Store>(stream: StreamParts, record: u64, store: &mut S) -> Result<(), Fault>
     ensures same { S.holds store.new ≡ S.holds store.old }
-    ensures outcome { (result, S.image store.new) ≡ apply_steps (S.holds store.old) (S.image store.old) (numbered «record» (writes (map (held stream.now) parts.now))) }
+    ensures outcome { (result, S.image store.new) ≡ apply_steps (S.holds store.old) (S.image store.old) (numbered «record» (writes (map (held stream.entry.bytes.now) stream.entry.sheet.runs.now))) }
 {
-    for part in parts {
-        write_part(stream, *part, record, store)?;
+    for part in stream.sheet.runs {
+        write_part(stream.bytes, *part, record, store)?;
     }
     Ok(())
 }
 
-// Zeroes a range as a whole, or writes it part by part; `parts` are those that begin inside it.
+// Zeroes a range as a whole, or writes it part by part; the stream's parts are those that begin inside
+// it.
 fn apply_range<S: Store>(
-    stream: &[u8],
-    parts: &[Run<PayloadMark>],
+    stream: StreamParts,
     range: Run<RangeMark>,
     record: u64,
     store: &mut S,
 ) -> Result<(), Fault>
-    requires { AllLie stream.now parts.now }
     ensures same { S.holds store.new ≡ S.holds store.old }
-    ensures outcome { (result, S.image store.new) ≡ apply_steps (S.holds store.old) (S.image store.old) (numbered «record» (handed range.mark range.offset range.length (map (held stream.now) parts.now))) }
+    ensures outcome { (result, S.image store.new) ≡ apply_steps (S.holds store.old) (S.image store.old) (numbered «record» (handed range.mark range.offset range.length (map (held stream.entry.bytes.now) stream.entry.sheet.runs.now))) }
 {
     match range.mark {
         RangeMark::Zeroed => store.zero(range.offset, range.length).in_record(record),
-        RangeMark::Written => write_parts(stream, parts, record, store),
+        RangeMark::Written => write_parts(stream, record, store),
     }
-}
-
-// How many parts at the front begin before a position.
-fn count_before(parts: &[Run<PayloadMark>], position: u64) -> usize
-    ensures within { result ≤ length parts.now }
-    ensures count { result ≡ prefix_len (before position) parts.now }
-{
-    let mut count = 0;
-    while count < parts.len() && parts[count].offset < position {
-        count += 1;
-    }
-    count
-}
-
-// Finds the parts from `next` on that begin inside a range.
-fn parts_inside(parts: &[Run<PayloadMark>], next: usize, range: Run<RangeMark>) -> Window
-    requires within { next ≤ length parts.now }
-    requires fits { ends range < 2 ^ 64 }
-    ensures { Inside parts.now next range result }
-{
-    let first = next + count_before(&parts[next..], range.offset);
-    let end = first + count_before(&parts[first..], range.offset + range.length);
-    Window { first, end }
 }
 
 // Applies ranges in turn, numbered from 1. Ranges and parts rise, so those parts that begin inside a
@@ -102,23 +71,16 @@ pub(crate) fn apply_ranges<S: Store>(
     ranges: &[Run<RangeMark>],
     store: &mut S,
 ) -> Result<(), Fault>
-    requires parts { WellParted stream.bytes.now stream.parts.now stream.size }
-    requires rising { Rising 0 ranges.now stream.size }
+    requires { Rising 0 ranges.now stream.sheet.size }
     ensures same { S.holds store.new ≡ S.holds store.old }
-    ensures outcome { (result, S.image store.new) ≡ apply_steps (S.holds store.old) (S.image store.old) (steps_from 1 (map (held stream.entry.bytes.now) stream.entry.parts.now) ranges.now) }
+    ensures outcome { (result, S.image store.new) ≡ apply_steps (S.holds store.old) (S.image store.old) (steps_from 1 (map (held stream.entry.bytes.now) stream.entry.sheet.runs.now) ranges.now) }
 {
-    let parts = stream.parts;
-    let mut next = 0;
+    let mut left = stream;
     for (i, range) in ranges.iter().enumerate() {
-        let Window { first, end } = parts_inside(parts, next, *range);
-        apply_range(
-            stream.bytes,
-            &parts[first..end],
-            *range,
-            i as u64 + 1,
-            store,
-        )?;
-        next = end;
+        let (_, begun) = left.split_before(range.offset);
+        let (inside, behind) = begun.split_before(range.end());
+        apply_range(inside, *range, i as u64 + 1, store)?;
+        left = behind;
     }
     Ok(())
 }

@@ -1,5 +1,5 @@
 ghost use Rattle.std.specs.Prelude.{◌≡◌, ◌≤◌, take};
-ghost use Rattle.apply.specs.Read.{WellParted, Reads, Leads, ReadsFrom};
+ghost use Rattle.apply.specs.Read.{Reads, Leads, ReadsFrom};
 ghost use Rattle.overlay.specs.declared.payloads.Side.TheVariants.{Later};
 ghost use Rattle.overlay.specs.Runs.{Rising};
 ghost use Rattle.stream.specs.Parts.{part_ranges};
@@ -13,12 +13,11 @@ use stream::{Parts, Ranges, Summary, find_ranges, read};
 // Finds the ranges that the parts of a stream come to, in rising order: they go to the front of `out`,
 // and are counted.
 pub(crate) fn rising_ranges(stream: StreamParts, out: &mut Ranges) -> usize
-    requires { WellParted stream.bytes.now stream.parts.now stream.size }
     ensures within { result ≤ 1026 }
-    ensures rising { Rising 0 (take result out.new) stream.entry.size }
-    ensures ranges { take result out.new ≡ part_ranges stream.entry.parts.now stream.entry.size }
+    ensures rising { Rising 0 (take result out.new) stream.entry.sheet.size }
+    ensures ranges { take result out.new ≡ part_ranges stream.entry.sheet.runs.now stream.entry.sheet.size }
 {
-    find_ranges(stream.parts, stream.size, out)
+    find_ranges(stream.sheet, out)
 }
 
 // Reads a stream: its metadata, and its data records as parts.
@@ -33,9 +32,8 @@ fn leads_from(stream: &[u8], parts: &Parts, summary: Summary, name: &[u8]) -> bo
     requires { Told Later stream.now summary parts.now }
     ensures { Leads name.now stream.now result }
 {
-    let start = summary.from.place;
-    let end = start + summary.from.length;
-    &stream[start..end] == name
+    let end = summary.from.place + summary.from.length;
+    &stream[summary.from.place..end] == name
 }
 
 // Reads a stream that leads from a name; another is refused.

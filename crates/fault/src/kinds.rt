@@ -1,58 +1,59 @@
-// Why a call is refused. docs/REFUSALS.md has each cause with its number, layer and place.
+// Why a call is refused, with the number that docs/REFUSALS.md has for it beside its layer and place.
 #[derive(Clone, Copy, PartialEq, Eq, Debug)]
 pub enum Cause {
     // the stream does not begin with the header
-    Header,
+    Header = 1,
     // the stream ends inside a record, or before its end record
-    Cut,
+    Cut = 2,
     // a record begins with a byte that is no tag
-    UnknownTag,
+    UnknownTag = 3,
     // metadata after data, or a second of its kind
-    Misplaced,
+    Misplaced = 4,
     // data or the end while the to name or the size is missing
-    Incomplete,
+    Incomplete = 5,
     // a name that is too long, empty, or has other than printable bytes
-    BadName,
+    BadName = 6,
     // a size above 2^40
-    TooLarge,
+    TooLarge = 7,
     // a range of length 0, or one that passes the size
-    BadRange,
+    BadRange = 8,
     // a data record that begins before the end of the one before it
-    Overlap,
+    Overlap = 9,
     // data record 513
-    TooManyRecords,
+    TooManyRecords = 10,
     // bytes after the end record
-    Trailing,
+    Trailing = 11,
     // the later difference does not begin where the earlier one ends
-    NamesDiffer,
+    NamesDiffer = 12,
     // the result would have more than 512 canonical records
-    TooManyRanges,
+    TooManyRanges = 13,
     // a buffer is too short
-    ShortBuffer,
+    ShortBuffer = 14,
     // a range passes the end of the image
-    Outside,
+    Outside = 15,
     // the store cannot hold the resulting image
-    NoRoom,
+    NoRoom = 16,
     // the shelf has 64 entries already
-    ShelfFull,
+    ShelfFull = 17,
     // no such entry on the shelf, or none after it to join
-    NoEntry,
+    NoEntry = 18,
     // the to name is the base name or an entry's to name
-    NameTaken,
+    NameTaken = 19,
     // the shelf's bytes are not what the shelf wrote there
-    Damaged,
+    Damaged = 20,
 }
 
-// The part of the software that gives a cause.
+// The part of the software that gives a cause, with its number.
 #[derive(Clone, Copy, PartialEq, Eq, Debug)]
 pub enum Layer {
-    Stream,
-    Join,
-    Store,
-    Shelf,
+    Stream = 1,
+    Join = 2,
+    Store = 3,
+    Shelf = 4,
 }
 
-// A refusal: why, by which layer, at what place, and in which record and entry.
+// A refusal: why, by which layer, at what place, and in which record and entry, each 0 where there is
+// none. These are the five numbers of docs/REFUSALS.md.
 #[derive(Clone, Copy, PartialEq, Eq, Debug)]
 pub struct Fault {
     pub cause: Cause,

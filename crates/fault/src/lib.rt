@@ -2,77 +2,24 @@
 // above hand it on by `?` and add the record and the entry, nothing else.
 #![tactic(auto)]
 
-ghost use Rattle.std.specs.Prelude.{◌≡◌, ℕ};
-ghost use Rattle.fault.specs.Fault.{cause_number, layer_number, layer_of, place_of, fault, at_layer, in_record, in_entry, fault_by};
+ghost use Rattle.std.specs.Prelude.{◌≡◌, ℕ, Some};
+ghost use Rattle.fault.specs.Fault.{layer_number, fault, at_layer, in_record, in_entry, fault_by};
+ghost use Rattle.fault.specs.Words.{fault_text};
 
+use std::error::Error;
+use std::fmt;
+
+mod cause;
 mod kinds;
 
 pub use kinds::{Cause, Fault, Layer};
-
-impl Cause {
-    // The cause's number, 1 to 20.
-    pub fn number(self) -> u64
-        ensures { result ≡ cause_number self }
-    {
-        match self {
-            Cause::Header => 1,
-            Cause::Cut => 2,
-            Cause::UnknownTag => 3,
-            Cause::Misplaced => 4,
-            Cause::Incomplete => 5,
-            Cause::BadName => 6,
-            Cause::TooLarge => 7,
-            Cause::BadRange => 8,
-            Cause::Overlap => 9,
-            Cause::TooManyRecords => 10,
-            Cause::Trailing => 11,
-            Cause::NamesDiffer => 12,
-            Cause::TooManyRanges => 13,
-            Cause::ShortBuffer => 14,
-            Cause::Outside => 15,
-            Cause::NoRoom => 16,
-            Cause::ShelfFull => 17,
-            Cause::NoEntry => 18,
-            Cause::NameTaken => 19,
-            Cause::Damaged => 20,
-        }
-    }
-
-    // The layer that gives the cause, where the call does not name another.
-    fn layer(self) -> Layer
-        ensures { result ≡ layer_of self }
-    {
-        match self {
-            Cause::NamesDiffer | Cause::TooManyRanges => Layer::Join,
-            Cause::Outside | Cause::NoRoom => Layer::Store,
-            Cause::ShelfFull | Cause::NoEntry | Cause::NameTaken | Cause::Damaged => Layer::Shelf,
-            _ => Layer::Stream,
-        }
-    }
-
-    // The place that a fault of this cause has, where `at` is the number that the cause speaks of.
-    fn place(self, at: u64) -> u64
-        ensures { result ≡ place_of self at }
-    {
-        match self {
-            Cause::Header | Cause::NamesDiffer | Cause::TooManyRanges => 0,
-            Cause::ShelfFull | Cause::NameTaken | Cause::Damaged => 0,
-            _ => at,
-        }
-    }
-}
 
 impl Layer {
     // The layer's number, 1 to 4.
     pub fn number(self) -> u64
         ensures { result ≡ layer_number self }
     {
-        match self {
-            Layer::Stream => 1,
-            Layer::Join => 2,
-            Layer::Store => 3,
-            Layer::Shelf => 4,
-        }
+        self as u64
     }
 }
 
@@ -112,6 +59,28 @@ impl Fault {
     }
 }
 
+// The words of the cause, and the five numbers. By hand: a derive would promise nothing of what it
+// prints.
+impl fmt::Display for Fault {
+    ghost output = { λ f. Some (fault_text f) };
+
+    fn fmt<W: fmt::Write>(&self, f: &mut fmt::Formatter<W>) -> fmt::Result {
+        let cause = self.cause;
+        let number = self.cause.number();
+        let layer = self.layer.number();
+        let place = self.place;
+        let record = self.record;
+        let entry = self.entry;
+        write!(
+            f,
+            "{cause} (cause {number}, layer {layer}, place {place}, record {record}, entry {entry})"
+        )
+    }
+}
+
+// So that a program hands a fault on by `?`.
+impl Error for Fault {}
+
 // A result whose fault, if it has one, gains where it happened: `check(stream).in_entry(1)?`.
 pub trait Located {
     // the result with its fault in a record, and in an entry
@@ -132,16 +101,10 @@ impl<T> Located for Result<T, Fault> {
     ghost entered = { λ i r. fault_by (in_entry i) r };
 
     fn in_record(self, record: u64) -> Result<T, Fault> {
-        match self {
-            Ok(x) => Ok(x),
-            Err(f) => Err(f.in_record(record)),
-        }
+        self.map_err(|f| f.in_record(record))
     }
 
     fn in_entry(self, entry: u64) -> Result<T, Fault> {
-        match self {
-            Ok(x) => Ok(x),
-            Err(f) => Err(f.in_entry(entry)),
-        }
+        self.map_err(|f| f.in_entry(entry))
     }
 }

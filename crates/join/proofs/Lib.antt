@@ -1,9 +1,10 @@
 pub mod Readings
+pub mod Sets
 pub mod Payloads
 pub mod Records
 pub mod Links
 pub mod Fewest
-pub mod Nothing
+pub mod Kept
 pub mod Expressed
 pub mod Accepted
 pub mod Applying

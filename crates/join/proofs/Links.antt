@@ -1,6 +1,7 @@
 -- The overlay of payload runs means the join of two sources, and the overlay of their ranges its canonical records. Assumes nothing.
 use Rattle.std.proofs.Common.{◌≡◌, ℕ, ◌+◌, ◌-◌, ◌^◌, ◌<◌, ◌≤◌, cond, ltb, List, [], ◌∷◌, map, length, take, Some, None, Ok, Option, sym, refl, ap, ◌∙◌, subst, ap₂, ⊎_elim, arith, length-take}
 use Rattle.std.proofs.lemmas.Bool.{cases_lt, cond-true, cond-false, lt-ltb, le-ltb}
+use Rattle.std.proofs.Math.Logic.{∥∥₁_elim}
 use Rattle.std.specs.Option.{option_map}
 use Rattle.overlay.specs.declared.runs.Run.{Run}
 use Rattle.overlay.specs.declared.ranges.RangeMark.{RangeMark}
@@ -12,7 +13,7 @@ use Rattle.overlay.specs.declared.payloads.Side.TheVariants.{Earlier, Later}
 use Rattle.overlay.specs.Marks.{payload_moves, range_moves, range_alike}
 use Rattle.overlay.specs.Payloads.{stream_of}
 use Rattle.overlay.specs.States.{over, overlaid}
-use Rattle.overlay.specs.Runs.{ends, run_at, at, painted, overlaid_at, Rising, RunsOf, remarked, runs_from}
+use Rattle.overlay.specs.Runs.{ends, run_at, at, painted, overlaid_at, Rising, RunsOf, AnswersOf, remarked, runs_from}
 use Rattle.overlay.proofs.Painted.{run_inside, run_before, run_after}
 use Rattle.overlay.proofs.Overlaid.{overlaid_length, maps_through}
 use Rattle.overlay.proofs.Bridge.{overlay_painted}
@@ -22,10 +23,11 @@ use Rattle.stream.specs.Difference.{Difference, canonical}
 use Rattle.stream.proofs.Ranged.{kinds_painted}
 use Rattle.join.specs.declared.sources.Source.{Source}
 use Rattle.join.specs.Sources.{source_cells, Sourced, source_join}
-use Rattle.join.specs.Parts.{Placed, Lie}
+use Rattle.join.specs.Lies.{Placed, AllPlaced, all_placed_prop}
 use Rattle.join.specs.Lengths.{stream_length}
 use Rattle.join.specs.Joins.{limited}
 use Rattle.join.proofs.Payloads.{moves_plain, length_cells}
+use Rattle.join.proofs.Sets.{cells_set}
 use Rattle.join.proofs.Records.{ranges_rise, length_canonical}
 
 module _ (earlier later : List ℕ) where
@@ -49,18 +51,15 @@ module _ (earlier later : List ℕ) where
         (maps_through mark_of zeroed (parts_cells earlier later ds m) (parts_cells earlier later es n)
         ∙ ap₂ (overlaid range.Zeroed) (kinds_painted earlier later ds m) (kinds_painted earlier later es n))
 
-    -- the overlay of parts of two streams are such parts
-    overlay_lies : Lie earlier later ds m → Lie earlier later es n → (parts : List (Run PayloadMark)) → RunsOf payload_moves (overlaid_at payload_moves Zeroed ds m es) n parts → Lie earlier later parts n
-    overlay_lies d e parts h = record {
-      rising = h.canonical.rising;
-      placed = λ p l.
-          subst (Placed earlier later) (sym (h.paints p l))
-          (placed_over (at payload_moves es p) (cond (ltb p m) (at payload_moves ds p) (Some Zeroed)) (e.placed p l)
-          (⊎_elim
-          (λ a. subst (Placed earlier later) (sym (cond-true (ltb p m) (at payload_moves ds p) (Some Zeroed) (lt-ltb p m a))) (d.placed p a))
-          (λ b. subst (Placed earlier later) (sym (cond-false (ltb p m) (at payload_moves ds p) (Some Zeroed) (le-ltb p m b))) tt)
-          (cases_lt p m)));
-    }
+    -- what the overlay of parts of two streams names is there too
+    overlay_placed : AllPlaced earlier later ds m → AllPlaced earlier later es n → (parts : List (Run PayloadMark)) → RunsOf payload_moves (overlaid_at payload_moves Zeroed ds m es) n parts → AllPlaced earlier later parts n
+    overlay_placed d e parts h = λ p l.
+        subst (Placed earlier later) (sym (h.paints p l))
+        (placed_over (at payload_moves es p) (cond (ltb p m) (at payload_moves ds p) (Some Zeroed)) (e p l)
+        (⊎_elim
+        (λ a. subst (Placed earlier later) (sym (cond-true (ltb p m) (at payload_moves ds p) (Some Zeroed) (lt-ltb p m a))) (d p a))
+        (λ b. subst (Placed earlier later) (sym (cond-false (ltb p m) (at payload_moves ds p) (Some Zeroed) (le-ltb p m b))) tt)
+        (cases_lt p m)))
 
 -- marks whose payload lies in the stream of their side name bytes that are there
 module _ (earlier later : List ℕ) (side : Side) (fits : length (stream_of earlier later side) < 2 ^ 64) where
@@ -86,52 +85,72 @@ module _ (earlier later : List ℕ) (side : Side) (fits : length (stream_of earl
   runs_placed [] p h = tt
   runs_placed (r ∷ rs) p h = placed_over earlier later (run_at payload_moves r p) (at payload_moves rs p) (run_placed r p h.0) (runs_placed rs p h.1)
 
+-- a source on a side of two streams, where its bytes are that side's: what its runs mean, and that what they name is there
+module _ (side : Side) (s : Source) (on : ∥ Sourced side s ∥₁) (earlier later : List ℕ) (is : stream_of earlier later side ≡ s.bytes.now) where
+  pub told_cells : parts_cells earlier later s.sheet.runs.now s.sheet.size ≡ source_cells s
+  unfolding source_cells
+  told_cells = ∥∥₁_elim on (cells_set _ _) (λ r. r.means earlier later is)
+
+  pub told_placed : length s.bytes.now < 2 ^ 64 → AllPlaced earlier later s.sheet.runs.now s.sheet.size
+  told_placed short =
+      ∥∥₁_elim on (all_placed_prop earlier later s.sheet.runs.now s.sheet.size)
+      (λ r p _.
+      runs_placed earlier later side (subst (λ (xs : List ℕ). length xs < 2 ^ 64) (sym is) short) s.sheet.runs.now p
+      (subst (λ xs. PayloadsIn side xs s.sheet.runs.now) (sym is) r.inside))
+
 -- two sources, each on its side
-module _ (earlier later : Source) (was : Sourced Earlier earlier) (is : Sourced Later later) where
+module _ (earlier later : Source) (was : ∥ Sourced Earlier earlier ∥₁) (is : ∥ Sourced Later later ∥₁) where
   -- what they mean, by the bytes of both
-  sourced_cells : overlaid zeroed (parts_cells earlier.bytes.now later.bytes.now earlier.parts.now earlier.size) (parts_cells earlier.bytes.now later.bytes.now later.parts.now later.size)
+  sourced_cells : overlaid zeroed (parts_cells earlier.bytes.now later.bytes.now earlier.sheet.runs.now earlier.sheet.size) (parts_cells earlier.bytes.now later.bytes.now later.sheet.runs.now later.sheet.size)
       ≡ (source_join earlier later).cells
-  sourced_cells = ap₂ (overlaid zeroed) (was.means earlier.bytes.now later.bytes.now refl) (is.means earlier.bytes.now later.bytes.now refl)
-
-  pub join_cells : (parts : List (Run PayloadMark)) → RunsOf payload_moves (overlaid_at payload_moves Zeroed earlier.parts.now earlier.size later.parts.now) later.size parts
-      → parts_cells earlier.bytes.now later.bytes.now parts later.size ≡ (source_join earlier later).cells
-  join_cells parts h = overlay_cells earlier.bytes.now later.bytes.now earlier.parts.now earlier.size later.parts.now later.size parts h ∙ sourced_cells
-
-  pub join_lies : length earlier.bytes.now < 2 ^ 64 → length later.bytes.now < 2 ^ 64 → (parts : List (Run PayloadMark))
-      → RunsOf payload_moves (overlaid_at payload_moves Zeroed earlier.parts.now earlier.size later.parts.now) later.size parts
-      → Lie earlier.bytes.now later.bytes.now parts later.size
-  join_lies short brief parts h =
+  sourced_cells =
       let eb = earlier.bytes.now in
       let lb = later.bytes.now in
-      let d : Lie eb lb earlier.parts.now earlier.size = record { rising = was.rising; placed = λ p _. runs_placed eb lb Earlier short earlier.parts.now p was.inside } in
-      let e : Lie eb lb later.parts.now later.size = record { rising = is.rising; placed = λ p _. runs_placed eb lb Later brief later.parts.now p is.inside } in
-      overlay_lies eb lb earlier.parts.now earlier.size later.parts.now later.size d e parts h
+      ap₂ (overlaid zeroed) (told_cells Earlier earlier was eb lb refl) (told_cells Later later is eb lb refl)
+
+  pub join_cells : (parts : List (Run PayloadMark)) → RunsOf payload_moves (overlaid_at payload_moves Zeroed earlier.sheet.runs.now earlier.sheet.size later.sheet.runs.now) later.sheet.size parts
+      → parts_cells earlier.bytes.now later.bytes.now parts later.sheet.size ≡ (source_join earlier later).cells
+  join_cells parts h = overlay_cells earlier.bytes.now later.bytes.now earlier.sheet.runs.now earlier.sheet.size later.sheet.runs.now later.sheet.size parts h ∙ sourced_cells
+
+  pub join_placed : length earlier.bytes.now < 2 ^ 64 → length later.bytes.now < 2 ^ 64 → (parts : List (Run PayloadMark))
+      → RunsOf payload_moves (overlaid_at payload_moves Zeroed earlier.sheet.runs.now earlier.sheet.size later.sheet.runs.now) later.sheet.size parts
+      → AllPlaced earlier.bytes.now later.bytes.now parts later.sheet.size
+  join_placed short brief parts h =
+      let eb = earlier.bytes.now in
+      let lb = later.bytes.now in
+      overlay_placed eb lb earlier.sheet.runs.now earlier.sheet.size later.sheet.runs.now later.sheet.size (told_placed Earlier earlier was eb lb refl short) (told_placed Later later is eb lb refl brief) parts h
 
   -- the overlay of the runs by their kinds gives the ranges of the join
-  pub join_ranged : (bs cs : List (Run RangeMark)) → bs ≡ map (remarked range_of) earlier.parts.now → cs ≡ map (remarked range_of) later.parts.now
-      → runs_from range_moves range_alike 0 (overlaid range.Zeroed (painted range_moves bs earlier.size) (painted range_moves cs later.size)) ≡ ranges (source_join earlier later).cells
+  pub join_ranged : (bs cs : List (Run RangeMark)) → bs ≡ map (remarked range_of) earlier.sheet.runs.now → cs ≡ map (remarked range_of) later.sheet.runs.now
+      → runs_from range_moves range_alike 0 (overlaid range.Zeroed (painted range_moves bs earlier.sheet.size) (painted range_moves cs later.sheet.size)) ≡ ranges (source_join earlier later).cells
   join_ranged bs cs b c =
-      ap₂ (λ x y. runs_from range_moves range_alike 0 (overlaid range.Zeroed (painted range_moves x earlier.size) (painted range_moves y later.size))) b c
-      ∙ sym (overlay_ranges earlier.bytes.now later.bytes.now earlier.parts.now earlier.size later.parts.now later.size)
+      ap₂ (λ x y. runs_from range_moves range_alike 0 (overlaid range.Zeroed (painted range_moves x earlier.sheet.size) (painted range_moves y later.sheet.size))) b c
+      ∙ sym (overlay_ranges earlier.bytes.now later.bytes.now earlier.sheet.runs.now earlier.sheet.size later.sheet.runs.now later.sheet.size)
       ∙ ap ranges sourced_cells
 
-  -- a join is as long as the later difference
-  pub length_join : length (source_join earlier later).cells ≡ later.size
+-- a join is as long as the later difference
+module _ (earlier later : Source) where
+  pub length_join : length (source_join earlier later).cells ≡ later.sheet.size
   unfolding source_cells
   length_join =
-      overlaid_length zeroed (source_cells earlier) (source_cells later) ∙ length_cells later.bytes.now later.bytes.now later.parts.now later.size
+      overlaid_length zeroed (source_cells earlier) (source_cells later) ∙ length_cells later.bytes.now later.bytes.now later.sheet.runs.now later.sheet.size
 
   -- runs that are the ranges of the join
-  module _ (rs : List (Run RangeMark)) (ranged : rs ≡ ranges (source_join earlier later).cells) (fits : later.size < 2 ^ 64) where
-    pub join_rises : Rising 0 rs later.size
+  module _ (rs : List (Run RangeMark)) (ranged : rs ≡ ranges (source_join earlier later).cells) (fits : later.sheet.size < 2 ^ 64) where
+    pub join_rises : Rising 0 rs later.sheet.size
     join_rises =
         let l = length_join in
-        subst (λ q. Rising 0 q later.size) (sym ranged) (subst (λ n. Rising 0 (ranges (source_join earlier later).cells) n) l (ranges_rise (source_join earlier later).cells (omega arith)))
+        subst (λ q. Rising 0 q later.sheet.size) (sym ranged) (subst (λ n. Rising 0 (ranges (source_join earlier later).cells) n) l (ranges_rise (source_join earlier later).cells (omega arith)))
 
     pub join_length_told : stream_length earlier.from.now later.to.now rs ≡ length (canonical (source_join earlier later))
     join_length_told =
         let l = length_join in
         ap (stream_length earlier.from.now later.to.now) ranged ∙ sym (length_canonical (source_join earlier later) (omega arith))
+
+-- the parts that an overlay counted
+pub parts_found : (states : ℕ → Option PayloadMark) (size : ℕ) (o : Option ℕ) (k : ℕ) (out : List (Run PayloadMark)) → o ≡ Some k → AnswersOf payload_moves states size o out
+    → RunsOf payload_moves states size (take k out)
+parts_found states size o k out e h = (subst (λ r. AnswersOf payload_moves states size r out) e h).1
 
 -- what the count of runs in a place for 512 tells of their list
 pub counted_most : {X : Type 0} (xs rs : List X) (k : ℕ) → length xs ≡ 512 → k ≤ length xs → take k xs ≡ rs → (k ≡ length rs) × (length rs ≤ 512)

@@ -1,8 +1,8 @@
 -- The bytes that parts of two streams name, position by position. Assumes nothing.
-use Rattle.std.proofs.Common.{◌≡◌, ℕ, ◌+◌, ◌-◌, ◌%◌, ◌^◌, ◌<◌, ◌≤◌, ltb, leb, List, ◌++◌, map, length, get_or, take, drop, Some, None, Option, sym, ap, ◌∙◌, subst, ⊎_elim, add-zero, mod-eq_of_lt, arith, length-drop, length-take, take-add}
+use Rattle.std.proofs.Common.{◌≡◌, ℕ, ◌+◌, ◌-◌, ◌%◌, ◌^◌, ◌<◌, ◌≤◌, ltb, List, ◌++◌, map, length, get_or, take, drop, Some, None, Option, sym, ap, ◌∙◌, subst, ⊎_elim, add-zero, mod-eq_of_lt, arith, length-drop, length-take, take-add}
 use Rattle.std.proofs.lemmas.List.{map-append, length-map, get_or-map, get_or-take, get_or-drop, ext_get_or, drop-drop}
 use Rattle.std.proofs.lemmas.List.FromFn.{length-map-range_with_len, get_or-map-range_with_len}
-use Rattle.std.proofs.lemmas.Bool.{cases_Bool, cases_lt, cond-true, cond-false, lt-ltb, le-ltb}
+use Rattle.std.proofs.lemmas.Bool.{cases_lt, cond-true, cond-false, lt-ltb, le-ltb}
 use Rattle.std.specs.Option.{option_map}
 use Rattle.overlay.specs.declared.runs.Run.{Run}
 use Rattle.overlay.specs.declared.runs.Piece.{Piece}
@@ -13,13 +13,14 @@ use Rattle.overlay.specs.declared.ranges.RangeMark.TheVariants as range
 use Rattle.overlay.specs.declared.payloads.PayloadMark.{PayloadMark}
 use Rattle.overlay.specs.declared.payloads.PayloadMark.TheVariants.{Zeroed, Written}
 use Rattle.overlay.specs.Marks.{payload_moves, place_moves}
-use Rattle.overlay.specs.Payloads.{stream_of, part_of}
+use Rattle.overlay.specs.Payloads.{stream_of}
 use Rattle.overlay.specs.Runs.{ends, at, painted}
-use Rattle.overlay.specs.Walks.{shifted, Even}
+use Rattle.overlay.specs.Walks.{shifted, Left, Even}
 use Rattle.stream.specs.Meaning.{Cell}
 use Rattle.stream.specs.Parts.{cell_of, range_of, parts_cells}
 use Rattle.stream.specs.Difference.{byte_over, payload_at}
-use Rattle.join.specs.Parts.{Placed, Lie, Ranged, Held, held_bytes}
+use Rattle.join.specs.Lies.{Placed, AllPlaced}
+use Rattle.join.specs.Parts.{Ranged, Held, held_bytes}
 
 -- the payload of some positions and of those after them
 payload_on : (ds : List (Option Cell)) (o a b : ℕ) → payload_at ds o (a + b) ≡ payload_at ds o a ++ payload_at ds (o + a) b
@@ -66,20 +67,6 @@ module _ (earlier later : List ℕ) (parts : List (Run PayloadMark)) (size : ℕ
       ∙ ap (byte_over 0) (get_or-take n (drop pos cells) i None k ∙ get_or-drop pos cells i None ∙ cells_at (pos + i) u ∙ ap (option_map (cell_of earlier later)) (each i k)) in
       p ∙ sym (get_or-take n (drop place s) i 0 k ∙ get_or-drop place s i 0))
 
--- a part that is handed out has no more bytes than were asked for
-pub part_short : (s xs : List ℕ) (place n : ℕ) → Some xs ≡ part_of s place n → length xs ≤ n
-part_short s xs place n h =
-    let test = leb (place + n) (length s) in
-    ⊎_elim
-    (λ y.
-    let e : Some xs ≡ Some (take n (drop place s)) = h ∙ cond-true test _ _ y in
-    let f : xs ≡ take n (drop place s) = cc in
-    omega (arith, ap length f, length-take n (drop place s)))
-    (λ y.
-    let e : ◌≡◌ {A = Option (List ℕ)} (Some xs) None = h ∙ cond-false test _ _ y in
-    let z : ◌≡◌ {A = ℕ} 0 1 = cc in absurd (omega arith))
-    (cases_Bool test)
-
 -- a place that does not pass 2^64 moves on plainly
 pub moves_plain : (place k : ℕ) → place + k < 2 ^ 64 → place_moves place k ≡ place + k
 moves_plain place k h =
@@ -101,7 +88,7 @@ held_whole place n l some fits each =
     (λ b. b)
     (cases_lt l (place + n))
 
-module _ (earlier later : List ℕ) (parts : List (Run PayloadMark)) (size : ℕ) (lie : Lie earlier later parts size) (short : length earlier < 2 ^ 64) (brief : length later < 2 ^ 64) where
+module _ (earlier later : List ℕ) (parts : List (Run PayloadMark)) (size : ℕ) (placed : AllPlaced earlier later parts size) (short : length earlier < 2 ^ 64) (brief : length later < 2 ^ 64) where
   -- a state of a written position: its bytes lie in a stream, and are the payload
   pub record Found (s : Option PayloadMark) (pos n : ℕ) : Type 0 where
     pub held : Held earlier later s n
@@ -128,7 +115,7 @@ module _ (earlier later : List ℕ) (parts : List (Run PayloadMark)) (size : ℕ
       same (pos + k) a b ∙ ap (λ j. Some (Written side (place_moves place j))) d in
       let each : (k : ℕ) → k < n → place_moves place k < length s = λ k h.
       let u : pos + k < size = omega arith in
-      subst (Placed earlier later) (on k h) (lie.placed (pos + k) u) in
+      subst (Placed earlier later) (on k h) (placed (pos + k) u) in
       let l = held_whole place n (length s) some (fits side) each in
       let f = fits side in
       record {
@@ -147,3 +134,8 @@ module _ (earlier later : List ℕ) (parts : List (Run PayloadMark)) (size : ℕ
       found piece.state pos (stop - pos) some u
       (λ p x y. let z : p < piece.stop = omega arith in even.same p x z)
       (alike.alike pos a in-run ∙ ap Some kind)
+
+-- what the parts that are left say from a position on, all parts say
+pub even_left : (parts left : List (Run PayloadMark)) (size n pos : ℕ) (piece : Piece PayloadMark) → Left payload_moves parts pos left → n ≡ size
+    → Even payload_moves (at payload_moves left) pos n piece → Even payload_moves (at payload_moves parts) pos size piece
+even_left parts left size n pos piece h e even = record { more = even.more; under = omega (arith, even.under); same = λ p l m. sym (h.same p l) ∙ even.same p l m }

@@ -6,7 +6,9 @@ use Rattle.fault.specs.declared.kinds.Cause.TheVariants.{NamesDiffer, TooManyRan
 use Rattle.stream.specs.Verdict.{same}
 use Rattle.stream.specs.Meaning.{ranges}
 use Rattle.stream.specs.Difference.{Difference, meaning, joined, canonical}
+use Rattle.join.specs.declared.pairs.Pair.{Pair}
 use Rattle.join.specs.declared.plans.Plan.{Plan}
+use Rattle.join.specs.Sources.{source_join}
 
 -- a result for a difference of at most 512 canonical records, and the refusal of more
 abbrev pub limited : {A : Type 0} → Difference → A → Result A Fault
@@ -28,3 +30,17 @@ canonical_stream stream = then (meaning stream) (λ d. Ok (canonical d))
 -- how many canonical records a difference has, and how long its stream is
 abbrev pub plan_of : Difference → Plan
 plan_of d = record { count = length (ranges d.cells); length = length (canonical d) }
+
+-- the join of what two streams mean, or the refusal: the earlier stream's fault, the later one's, names that do not meet
+abbrev pub joined_meaning : List ℕ → List ℕ → Result Difference Fault
+joined_meaning earlier later =
+    then (fault_by (in_entry 0) (meaning earlier))
+    (λ d. then (fault_by (in_entry 1) (meaning later)) (λ e. cond (same e.from d.to) (Ok (joined d e)) (Err (fault NamesDiffer 0))))
+
+-- the join of a pair that was read, or the fault
+abbrev pub pair_join : Pair → Difference
+pair_join p = source_join p.earlier p.later
+
+abbrev pub pair_meant : Result Pair Fault → Result Difference Fault
+pair_meant (Ok p) = Ok (pair_join p)
+pair_meant (Err f) = Err f

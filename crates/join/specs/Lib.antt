@@ -1,4 +1,6 @@
+pub mod Reads
 pub mod Sources
+pub mod Lies
 pub mod Parts
 pub mod Lengths
 pub mod Orders

@@ -1,34 +1,32 @@
--- The parts of which a joined payload is made: where they lie in the two streams, and what they say of a range. Rests on the stream's parts.
+-- The parts of which a joined payload is made: what they say of a range, and the bytes that they name. Rests on the stream's parts.
 use Rattle.std.specs.Prelude.{◌≡◌, ℕ, ◌+◌, ◌<◌, ◌≤◌, List, [], ◌∷◌, length, take, drop, Some, None, Option}
 use Rattle.std.specs.Option.{option_map}
 use Rattle.overlay.specs.declared.runs.Run.{Run}
 use Rattle.overlay.specs.declared.ranges.RangeMark.{RangeMark}
 use Rattle.overlay.specs.declared.payloads.PayloadMark.{PayloadMark}
 use Rattle.overlay.specs.declared.payloads.PayloadMark.TheVariants.{Zeroed, Written}
-use Rattle.overlay.specs.Marks.{payload_moves}
+use Rattle.overlay.specs.Marks.{payload_moves, range_of}
 use Rattle.overlay.specs.Payloads.{stream_of}
-use Rattle.overlay.specs.Runs.{ends, at, Rising}
+use Rattle.overlay.specs.Runs.{ends, at}
+use Rattle.overlay.specs.Walks.{Left}
+use Rattle.overlay.specs.declared.sheets.Sheet.{Sheet}
 use Rattle.stream.specs.Meaning.{Cell}
-use Rattle.stream.specs.Parts.{range_of, parts_cells}
+use Rattle.stream.specs.Difference.{Difference}
+use Rattle.stream.specs.Parts.{parts_cells}
 use Rattle.join.specs.declared.parts.JoinedParts.{JoinedParts}
 
--- the byte that a state names is in its stream
-abbrev pub Placed : List ℕ → List ℕ → Option PayloadMark → Type 0
-Placed earlier later None = Unit {0}
-Placed earlier later (Some Zeroed) = Unit {0}
-Placed earlier later (Some (Written side place)) = place < length (stream_of earlier later side)
-
--- parts of two streams, in rising order up to a size, each byte of them in its stream
-pub record Lie (earlier later : List ℕ) (parts : List (Run PayloadMark)) (size : ℕ) : Type 0 where
-  pub rising : Rising 0 parts size
-  pub placed : (p : ℕ) → p < size → Placed earlier later (at payload_moves parts p)
-
--- the same of the parts of a join, and the states that they give the positions
-abbrev pub PartsLie : JoinedParts → Type 0
-PartsLie j = Lie j.earlier.now j.later.now j.parts.now j.size
-
+-- the states that the parts of a join give the positions
 abbrev pub joined_cells : JoinedParts → List (Option Cell)
-joined_cells j = parts_cells j.earlier.now j.later.now j.parts.now j.size
+joined_cells j = parts_cells j.earlier.now j.later.now j.sheet.runs.now j.sheet.size
+
+-- the difference that its stream means
+abbrev pub joined_difference : JoinedParts → Difference
+joined_difference j = record { from = j.from.now; to = j.to.now; cells = joined_cells j }
+
+-- of the parts on a sheet those are left that reach beyond a position
+pub record LeftOf (sheet : Sheet PayloadMark) (pos : ℕ) (left : Sheet PayloadMark) : Type 0 where
+  pub size : left.size ≡ sheet.size
+  pub runs : Left payload_moves sheet.runs.now pos left.runs.now
 
 -- a range below the size whose positions all have its mark by the parts
 pub record Ranged (parts : List (Run PayloadMark)) (size : ℕ) (r : Run RangeMark) : Type 0 where

@@ -7,25 +7,26 @@ ghost use Rattle.fault.specs.declared.kinds.Layer.TheVariants as layers;
 ghost use Rattle.stream.specs.Buffers.{filling, filled_by};
 ghost use Rattle.join.specs.Joins.{joined_stream, canonical_stream};
 
-use fault::{Cause, Fault, Layer};
-use joining::join_sources;
+use fault::Fault;
 use overlay::{PayloadMark, Run, Side};
-use sources::{names_meet, read_entry};
+use stream::MOST_RECORDS;
 
 mod canonical;
 mod joining;
 mod laws;
 mod lengths;
+mod pairs;
 mod parts;
 mod plans;
+mod reading;
 mod sources;
 mod writing;
 
-pub use canonical::{canonical_length, is_canonical, write_source};
-pub use joining::write_joined;
 pub use laws::{laws_of_canonical_streams, laws_of_joins};
-pub use plans::{NO_RANGE, Plan, joined_length, plan_join};
-pub use sources::{NO_RUN, Source, read_source};
+pub use pairs::Pair;
+pub use plans::{Plan, joined_length};
+pub use reading::read_source;
+pub use sources::Source;
 
 // Joins two streams: writes the canonical stream of the join to the front of `out` and tells its
 // length. Refused, in this order: the earlier stream (entry 0), the later stream (entry 1), names that
@@ -35,14 +36,10 @@ pub fn join(earlier: &[u8], later: &[u8], out: &mut [u8]) -> Result<usize, Fault
     ensures result { result ≡ then (joined_stream earlier.now later.now) (λ bytes. filling layers.Join out.old bytes) }
     ensures buffer { out.new ≡ filled_by (joined_stream earlier.now later.now) out.old }
 {
-    let mut earlier_runs = [NO_RUN; 512];
-    let mut later_runs = [NO_RUN; 512];
-    let first = read_entry(earlier, Side::Earlier, 0, &mut earlier_runs)?;
-    let second = read_entry(later, Side::Later, 1, &mut later_runs)?;
-    if !names_meet(first, second) {
-        return Err(Fault::new(Cause::NamesDiffer, 0));
-    }
-    join_sources(first, second, Layer::Join, out)
+    let mut earlier_runs = [Run::<PayloadMark>::NONE; MOST_RECORDS];
+    let mut later_runs = [Run::<PayloadMark>::NONE; MOST_RECORDS];
+    let pair = Pair::read(earlier, later, &mut earlier_runs, &mut later_runs)?;
+    pair.join(out)
 }
 
 // Writes the canonical stream of a stream to the front of `out` and tells its length. Refused: the
@@ -51,7 +48,7 @@ pub fn write_canonical(stream: &[u8], out: &mut [u8]) -> Result<usize, Fault>
     ensures result { result ≡ then (canonical_stream stream.now) (λ bytes. filling layers.Stream out.old bytes) }
     ensures buffer { out.new ≡ filled_by (canonical_stream stream.now) out.old }
 {
-    let mut runs = [NO_RUN; 512];
+    let mut runs = [Run::<PayloadMark>::NONE; MOST_RECORDS];
     let source = read_source(stream, Side::Later, &mut runs)?;
-    write_source(source, out)
+    source.write(out)
 }

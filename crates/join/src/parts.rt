@@ -1,11 +1,19 @@
-use overlay::{PayloadMark, Run};
+ghost use Rattle.std.specs.Prelude.{◌^◌, ◌≤◌, length};
+ghost use Rattle.join.specs.Lies.{AllPlaced, all_placed_prop};
 
-// The parts of which the payload of a join is made: runs up to the join's size, whose marks name
-// places of the two streams.
+use overlay::{PayloadMark, Sheet};
+
+// What a joined stream is made of: its names, and the parts of its payload, whose marks name places of
+// the two streams.
 #[derive(Clone, Copy)]
-pub struct JoinedParts<'e, 'l, 'r> {
+pub struct JoinedParts<'n, 'e, 'l, 'r> {
+    pub from: &'n [u8],
+    pub to: &'n [u8],
     pub earlier: &'e [u8],
     pub later: &'l [u8],
-    pub parts: &'r [Run<PayloadMark>],
-    pub size: u64,
+    pub sheet: Sheet<'r, PayloadMark>,
+    pub ghost short_from: { length from.now ≤ 64 },
+    pub ghost short_to: { length to.now ≤ 64 },
+    pub ghost placed: { AllPlaced earlier.now later.now sheet.runs.now sheet.size } by { all_placed_prop earlier.now later.now sheet.runs.now sheet.size },
+    pub ghost small: { sheet.size ≤ 2 ^ 40 },
 }

@@ -1,19 +1,17 @@
-ghost use Rattle.std.specs.Prelude.{◌≡◌, ◌+◌, ◌^◌, ◌≤◌, map, length};
+ghost use Rattle.std.specs.Prelude.{◌≡◌, ◌+◌, ◌≤◌, map, length};
 ghost use Rattle.overlay.specs.declared.ranges.RangeMark.TheVariants.{Written};
-ghost use Rattle.overlay.specs.Marks.{payload_moves};
 ghost use Rattle.overlay.specs.Runs.{ends, Rising};
-ghost use Rattle.overlay.specs.Walks.{Cursor};
 ghost use Rattle.stream.specs.Bytes.{patched};
 ghost use Rattle.stream.specs.Records.{encoded, encodings};
 ghost use Rattle.stream.specs.Meaning.{ranges};
 ghost use Rattle.stream.specs.Difference.{payload_at, content_of, canonical};
 ghost use Rattle.join.specs.Lengths.{record_length, records_length, stream_length};
-ghost use Rattle.join.specs.Parts.{Held, held_bytes, PartsLie, joined_cells, Ranged, AllRanged};
+ghost use Rattle.join.specs.Parts.{Held, held_bytes, joined_cells, joined_difference, LeftOf, Ranged, AllRanged};
 
 use crate::lengths::record_length;
 use crate::parts::JoinedParts;
-use overlay::{PayloadMark, RangeMark, Run, look, part, skip};
-use writer::{from_length, put_bytes, put_opening, put_range, put_u8};
+use overlay::{PayloadMark, RangeMark, Run, Sheet, part};
+use writer::{Heading, put_bytes, put_range, put_u8};
 
 // Writes the bytes that a state names at the front.
 fn put_part(joined: JoinedParts, state: Option<PayloadMark>, count: usize, tail: &mut [u8])
@@ -24,29 +22,34 @@ fn put_part(joined: JoinedParts, state: Option<PayloadMark>, count: usize, tail:
     let Some(PayloadMark::Written(side, place)) = state else {
         unreachable()
     };
-    match part(joined.earlier, joined.later, side, place as usize, count) {
-        Some(bytes) => put_bytes(tail, bytes),
-        None => unreachable(),
-    }
+    let Some(bytes) = part(joined.earlier, joined.later, side, place as usize, count) else {
+        unreachable()
+    };
+    put_bytes(tail, bytes);
 }
 
-// Writes the payload of a written range at the front, part by part. `first` is a part before which
-// none reaches the range; the answer is such a part for what follows the range.
-fn put_payload(joined: JoinedParts, first: usize, run: Run<RangeMark>, tail: &mut [u8]) -> usize
-    requires lie { PartsLie joined }
-    requires cursor { Cursor payload_moves joined.parts.now first run.offset }
-    requires alike { Ranged joined.parts.now joined.size run }
+// Writes the payload of a written range at the front, part by part. No part outside `left` reaches the
+// range; the answer are the parts that are left behind it. (No `for`: each piece tells how far it
+// reaches.)
+fn put_payload<'r>(
+    joined: JoinedParts,
+    left: Sheet<'r, PayloadMark>,
+    run: Run<RangeMark>,
+    tail: &mut [u8],
+) -> Sheet<'r, PayloadMark>
+    requires left { LeftOf joined.sheet run.offset left }
+    requires alike { Ranged joined.sheet.runs.now joined.sheet.size run }
     requires kind { run.mark ≡ Written }
     requires room { run.length ≤ length tail.old }
-    ensures cursor { Cursor payload_moves joined.entry.parts.now result (ends run) }
+    ensures left { LeftOf joined.entry.sheet (ends run) result }
     ensures buffer { tail.new ≡ patched tail.old 0 (payload_at (joined_cells joined.entry) run.offset run.length) }
 {
-    let end = run.offset + run.length;
-    let mut next = first;
+    let end = run.end();
+    let mut rest = left;
     let mut pos = run.offset;
     while pos < end {
-        next = skip(joined.parts, next, pos);
-        let piece = look(joined.parts, next, pos, joined.size);
+        rest = rest.skip(pos);
+        let piece = rest.look(pos);
         let stop = piece.stop.min(end);
         let done = (pos - run.offset) as usize;
         put_part(
@@ -57,26 +60,30 @@ fn put_payload(joined: JoinedParts, first: usize, run: Run<RangeMark>, tail: &mu
         );
         pos = stop;
     }
-    next
+    rest
 }
 
-// Writes the record of a range at the front; `first` and the answer are as for its payload.
-fn put_record(joined: JoinedParts, first: usize, run: Run<RangeMark>, tail: &mut [u8]) -> usize
-    requires lie { PartsLie joined }
-    requires cursor { Cursor payload_moves joined.parts.now first run.offset }
-    requires alike { Ranged joined.parts.now joined.size run }
+// Writes the record of a range at the front; `left` and the answer are as for its payload.
+fn put_record<'r>(
+    joined: JoinedParts,
+    left: Sheet<'r, PayloadMark>,
+    run: Run<RangeMark>,
+    tail: &mut [u8],
+) -> Sheet<'r, PayloadMark>
+    requires left { LeftOf joined.sheet run.offset left }
+    requires alike { Ranged joined.sheet.runs.now joined.sheet.size run }
     requires room { record_length run ≤ length tail.old }
-    ensures cursor { Cursor payload_moves joined.entry.parts.now result (ends run) }
+    ensures left { LeftOf joined.entry.sheet (ends run) result }
     ensures buffer { tail.new ≡ patched tail.old 0 (encoded (content_of (joined_cells joined.entry) run)) }
 {
     match run.mark {
         RangeMark::Zeroed => {
             put_range(tail, b'z', run.offset, run.length);
-            first
+            left
         }
         RangeMark::Written => {
             put_range(tail, b'w', run.offset, run.length);
-            put_payload(joined, first, run, &mut tail[17..])
+            put_payload(joined, left, run, &mut tail[17..])
         }
     }
 }
@@ -88,41 +95,33 @@ fn put_records(
     out: &mut [u8],
     start: usize,
 ) -> usize
-    requires lie { PartsLie joined }
-    requires small { joined.size ≤ 2 ^ 40 }
-    requires rising { Rising 0 records.now joined.size }
-    requires alike { AllRanged joined.parts.now joined.size records.now }
+    requires rising { Rising 0 records.now joined.sheet.size }
+    requires alike { AllRanged joined.sheet.runs.now joined.sheet.size records.now }
     requires room { start + records_length records.now ≤ length out.old }
     ensures end { result ≡ start + records_length records.now }
     ensures buffer { out.new ≡ patched out.old start (encodings (map (content_of (joined_cells joined.entry)) records.now)) }
 {
     let mut at = start;
-    let mut first = 0;
+    let mut left = joined.sheet;
     for run in records {
-        first = put_record(joined, first, *run, &mut out[at..]);
+        left = put_record(joined, left, *run, &mut out[at..]);
         at += record_length(*run) as usize;
     }
     at
 }
 
 // Writes the canonical stream of a join, of which `records` are the ranges, to the front of `out`.
-pub(crate) fn put_stream(
-    joined: JoinedParts,
-    from: &[u8],
-    to: &[u8],
-    records: &[Run<RangeMark>],
-    out: &mut [u8],
-)
-    requires lie { PartsLie joined }
-    requires small { joined.size ≤ 2 ^ 40 }
-    requires from_short { length from.now ≤ 64 }
-    requires to_short { length to.now ≤ 64 }
+pub(crate) fn put_stream(joined: JoinedParts, records: &[Run<RangeMark>], out: &mut [u8])
     requires ranged { records.now ≡ ranges (joined_cells joined) }
-    requires room { stream_length from.now to.now records.now ≤ length out.old }
-    ensures { out.new ≡ patched out.old 0 (canonical (record { from = from.entry.now; to = to.now; cells = joined_cells joined.entry })) }
+    requires room { stream_length joined.from.now joined.to.now records.now ≤ length out.old }
+    ensures { out.new ≡ patched out.old 0 (canonical (joined_difference joined.entry)) }
 {
-    put_opening(out, from, to, joined.size);
-    let start = 26 + from_length(from) + to.len();
-    let end = put_records(joined, records, out, start);
+    let heading = Heading {
+        from: joined.from,
+        to: joined.to,
+        size: joined.sheet.size,
+    };
+    heading.put(out);
+    let end = put_records(joined, records, out, heading.length());
     put_u8(&mut out[end..], b'e');
 }

@@ -20,7 +20,7 @@ use Rattle.stream.specs.Places.{size_in}
 use Rattle.overlay.specs.declared.ranges.RangeMark.TheVariants as range
 use Rattle.stream.specs.Meaning.{written, mark_of, given, laid, cells, ranges}
 use Rattle.stream.specs.Told.{stream_ranges}
-use Rattle.stream.specs.declared.kinds.State.{State}
+use Rattle.stream.specs.Rule.{State}
 use Rattle.stream.proofs.Forth.{step_forth, read_forth, size_stays, length_positive}
 use Rattle.stream.proofs.Ranged.{map_same}
 use Rattle.stream.proofs.Refused.{header_tells}

@@ -1,4 +1,3 @@
-mod Decimals
 mod Lines
 mod Rooms
 mod Longest

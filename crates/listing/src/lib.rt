@@ -10,7 +10,6 @@ use fault::Fault;
 use overlay::{RangeMark, Run, laws_of_runs};
 use stream::{MOST_RANGES, read_ranges};
 
-mod numerals;
 mod text;
 
 pub use text::write_text;
@@ -21,13 +20,9 @@ pub fn list(stream: &[u8], text: &mut [u8]) -> Result<usize, Fault>
     ensures result { result ≡ list_answer stream.now text.old }
     ensures buffer { text.new ≡ filled_by (listed stream.now) text.old }
 {
-    let mut ranges = [Run {
-        offset: 0,
-        length: 0,
-        mark: RangeMark::Zeroed,
-    }; MOST_RANGES];
+    let mut ranges = [Run::<RangeMark>::NONE; MOST_RANGES];
     let count = read_ranges(stream, &mut ranges)?;
-    write_text(&ranges[0..count], text)
+    write_text(&ranges[..count], text)
 }
 
 // The laws of lists. Longest: the ranges of a difference are its longest runs of zeroed or of written

@@ -4,8 +4,8 @@ ghost use Rattle.stream.specs.Buffers.{filling, filled};
 ghost use Rattle.stream.specs.Bytes.{patched};
 ghost use Rattle.listing.specs.Text.{line_end, line, listing};
 
-use super::numerals::Numeral;
 use fault::{Cause, Fault};
+use itoa::Buffer;
 use overlay::{RangeMark, Run};
 use writer::{put_bytes, put_u8};
 
@@ -16,7 +16,7 @@ fn digits(n: u64) -> usize
     ensures exact { result ≡ length (decimal n) }
     ensures few { result ≤ 20 }
 {
-    20 - Numeral::of(n).first
+    Buffer::new().format(n).len()
 }
 
 // Writes a number at the front, and tells how many bytes it took.
@@ -25,10 +25,10 @@ fn put_number(tail: &mut [u8], n: u64) -> usize
     ensures taken { result ≡ length (decimal n) }
     ensures buffer { tail.new ≡ patched tail.old 0 (decimal n) }
 {
-    let numeral = Numeral::of(n);
-    let first = numeral.first;
-    put_bytes(tail, &numeral.digits[first..]);
-    20 - first
+    let mut buffer = Buffer::new();
+    let text = buffer.format(n).as_bytes();
+    put_bytes(tail, text);
+    text.len()
 }
 
 // Writes a space, the kind, and the line's end.

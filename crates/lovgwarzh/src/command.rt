@@ -44,58 +44,25 @@ pub fn parse(words: &[String]) -> Option<Command<'_>> {
     let [name, rest @ ..] = words else {
         return Some(Command::Streams);
     };
-    match name.as_str() {
-        "check" => parse_check(rest),
-        "list" => parse_list(rest),
-        "join" => parse_join(rest),
-        "apply" => parse_apply(rest),
-        "tour" => alone(Command::Tour, rest),
-        "help" | "--help" | "-h" => alone(Command::Help, rest),
+    match (name.as_str(), rest) {
+        ("check", [file]) => Some(Command::Check {
+            file: file.as_str(),
+        }),
+        ("list", [file]) => Some(Command::List {
+            file: file.as_str(),
+        }),
+        ("join", [earlier, later, out]) => Some(Command::Join {
+            earlier: earlier.as_str(),
+            later: later.as_str(),
+            out: out.as_str(),
+        }),
+        ("apply", [stream, name, image]) => Some(Command::Apply {
+            stream: stream.as_str(),
+            name: name.as_str(),
+            image: image.as_str(),
+        }),
+        ("tour", []) => Some(Command::Tour),
+        ("help" | "--help" | "-h", []) => Some(Command::Help),
         _ => None,
     }
-}
-
-// A command that takes no words.
-fn alone<'a>(command: Command<'a>, rest: &[String]) -> Option<Command<'a>> {
-    if rest.is_empty() { Some(command) } else { None }
-}
-
-fn parse_check(rest: &[String]) -> Option<Command<'_>> {
-    let [file] = rest else {
-        return None;
-    };
-    Some(Command::Check {
-        file: file.as_str(),
-    })
-}
-
-fn parse_list(rest: &[String]) -> Option<Command<'_>> {
-    let [file] = rest else {
-        return None;
-    };
-    Some(Command::List {
-        file: file.as_str(),
-    })
-}
-
-fn parse_join(rest: &[String]) -> Option<Command<'_>> {
-    let [earlier, later, out] = rest else {
-        return None;
-    };
-    Some(Command::Join {
-        earlier: earlier.as_str(),
-        later: later.as_str(),
-        out: out.as_str(),
-    })
-}
-
-fn parse_apply(rest: &[String]) -> Option<Command<'_>> {
-    let [stream, name, image] = rest else {
-        return None;
-    };
-    Some(Command::Apply {
-        stream: stream.as_str(),
-        name: name.as_str(),
-        image: image.as_str(),
-    })
 }

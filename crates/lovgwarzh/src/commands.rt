@@ -2,26 +2,22 @@
 // written only once nothing can be refused any more.
 ghost use Rattle.std.specs.Prelude.{◌≡◌, ◌^◌, ◌<◌, ◌≤◌};
 
-use crate::failure::{Failure, accepted};
+use crate::failure::{About, Failure};
 use crate::files::{MOST_BYTES, read_file, write_file};
 use apply::apply;
 use fault::{Cause, Fault, Layer};
-use join::{NO_RUN, join, joined_length};
+use join::{join, joined_length};
 use listing::list;
-use overlay::Side;
+use overlay::{Run, Side};
 use std::alloc::Global;
 use std::io::Write;
 use store::{FlatImage, Store};
-use stream::{Span, Summary, check, read};
+use stream::{MOST_RECORDS, Span, Summary, check, read};
 
 // A name of a stream as text, and `-` for the empty one. Names are printable, so they always are text.
 fn name_text(stream: &[u8], name: Span) -> &str {
-    let Some(behind) = stream.get(name.place..) else {
-        return "-";
-    };
-    let Some(bytes) = behind.get(0..name.length) else {
-        return "-";
-    };
+    let behind = stream.get(name.place..).unwrap_or(b"");
+    let bytes = behind.get(..name.length).unwrap_or(b"");
     match std::str::from_utf8(bytes) {
         Ok("") => "-",
         Ok(text) => text,
@@ -31,7 +27,7 @@ fn name_text(stream: &[u8], name: Span) -> &str {
 
 // The metadata of a stream.
 fn summary_of(stream: &[u8]) -> Result<Summary, Fault> {
-    let mut parts = [NO_RUN; 512];
+    let mut parts = [Run::NONE; MOST_RECORDS];
     read(stream, Side::Later, &mut parts)
 }
 
@@ -44,7 +40,7 @@ fn checked(stream: &[u8]) -> Result<Summary, Fault> {
 // Checks a stream, and tells its names, the image's size and how many data records it has.
 pub fn check_file(rt: &HostRuntime, path: &str) -> Result<(), Failure> {
     let stream = read_file(rt, path)?;
-    let summary = accepted(rt.alloc(), path, checked(&stream))?;
+    let summary = checked(&stream).about(rt.alloc(), path)?;
     let from = name_text(&stream, summary.from);
     let to = name_text(&stream, summary.to);
     let size = summary.size;
@@ -61,13 +57,8 @@ pub fn check_file(rt: &HostRuntime, path: &str) -> Result<(), Failure> {
 fn list_length(stream: &[u8]) -> Result<u64, Fault> {
     match list(stream, &mut []) {
         Ok(n) => Ok(n as u64),
-        Err(f) => {
-            if f.cause == Cause::ShortBuffer {
-                Ok(f.place)
-            } else {
-                Err(f)
-            }
-        }
+        Err(fault) if fault.cause == Cause::ShortBuffer => Ok(fault.place),
+        Err(fault) => Err(fault),
     }
 }
 
@@ -75,22 +66,19 @@ fn list_length(stream: &[u8]) -> Result<u64, Fault> {
 pub fn list_file(rt: &HostRuntime, path: &str) -> Result<(), Failure> {
     let heap = rt.alloc();
     let stream = read_file(rt, path)?;
-    let length = accepted(heap, path, list_length(&stream))?;
+    let length = list_length(&stream).about(heap, path)?;
     let mut text = vec![in heap; 0u8; length as usize]?;
-    accepted(heap, path, list(&stream, &mut text))?;
+    list(&stream, &mut text).about(heap, path)?;
     rt.stdout().write_all(&text)?;
     Ok(())
 }
 
 // A refusal of a join, told with the stream that has the fault, or with both where they do not fit.
-fn refused_join(heap: Global, earlier: &str, later: &str, f: Fault) -> Failure {
-    match (f.layer, f.entry) {
-        (Layer::Stream, 0) => Failure::of_fault(heap, earlier, f),
-        (Layer::Stream, _) => Failure::of_fault(heap, later, f),
-        _ => match format!(in heap; "{earlier}, {later}") {
-            Ok(path) => Failure::Refused { path, fault: f },
-            Err(_) => Failure::Memory,
-        },
+fn refused_join(heap: Global, earlier: &str, later: &str, fault: Fault) -> Failure {
+    match (fault.layer, fault.entry) {
+        (Layer::Stream, 0) => Failure::about(heap, earlier, fault),
+        (Layer::Stream, _) => Failure::about(heap, later, fault),
+        _ => Failure::about(heap, format_args!("{earlier}, {later}"), fault),
     }
 }
 
@@ -99,14 +87,10 @@ pub fn join_files(rt: &HostRuntime, earlier: &str, later: &str, out: &str) -> Re
     let heap = rt.alloc();
     let first = read_file(rt, earlier)?;
     let second = read_file(rt, later)?;
-    let length = match joined_length(&first, &second) {
-        Ok(length) => length,
-        Err(f) => return Err(refused_join(heap, earlier, later, f)),
-    };
+    let refused = |fault| refused_join(heap, earlier, later, fault);
+    let length = joined_length(&first, &second).map_err(refused)?;
     let mut joined = vec![in heap; 0u8; length as usize]?;
-    if let Err(f) = join(&first, &second, &mut joined) {
-        return Err(refused_join(heap, earlier, later, f));
-    }
+    join(&first, &second, &mut joined).map_err(refused)?;
     write_file(rt, out, &joined)?;
     println!(rt; "{out}: {length} bytes")?;
     Ok(())
@@ -139,11 +123,12 @@ fn room_for(before: u64, after: u64) -> u64
 }
 
 // A refusal of an apply: one of the store is told with the image, any other with the stream.
-fn refused_apply(heap: Global, stream: &str, image: &str, f: Fault) -> Failure {
-    match f.layer {
-        Layer::Store => Failure::of_fault(heap, image, f),
-        _ => Failure::of_fault(heap, stream, f),
-    }
+fn refused_apply(heap: Global, stream: &str, image: &str, fault: Fault) -> Failure {
+    let path = match fault.layer {
+        Layer::Store => image,
+        _ => stream,
+    };
+    Failure::about(heap, path, fault)
 }
 
 // Applies a stream to an image in a file, whose snapshot is named. The image is read whole, and written
@@ -157,13 +142,13 @@ pub fn apply_to_file(
     let heap = rt.alloc();
     let difference = read_file(rt, stream)?;
     let mut memory = read_file(rt, image)?;
-    let summary = accepted(heap, stream, summary_of(&difference))?;
+    let summary = summary_of(&difference).about(heap, stream)?;
     let before = memory.len() as u64;
     memory.resize(room_for(before, summary.size) as usize, 0)?;
-    match apply_in(&difference, name_of(name), &mut memory, before) {
-        Err(f) => return Err(refused_apply(heap, stream, image, f)),
-        Ok(after) => memory.truncate(after as usize),
-    }
+    let after = apply_in(&difference, name_of(name), &mut memory, before).map_err(
+        |fault| refused_apply(heap, stream, image, fault),
+    )?;
+    memory.truncate(after as usize);
     write_file(rt, image, &memory)?;
     let to = name_text(&difference, summary.to);
     let size = memory.len();

@@ -1,95 +1,63 @@
-use crate::refusal::Refusal;
 use fault::Fault;
-use std::alloc::{AllocError, AllocFailed, Global};
+use std::alloc::{AllocError, Global};
 use std::{fmt, io};
+use thiserror::Error;
+
+// What is wrong with a file.
+#[derive(Debug, Drop, Error)]
+pub enum Trouble {
+    // a call was refused, over what the file holds
+    #[error("refused: {0}")]
+    Refused(#[from] Fault),
+    // the file cannot be read or written
+    #[error("{0}")]
+    File(#[from] io::Error),
+}
 
 // Why a command ends without its result.
-#[derive(Drop)]
+#[derive(Debug, Drop, Error)]
 pub enum Failure {
     // the words are no command
+    #[error("no such command")]
     Usage,
-    // a call was refused, over what the file at the path holds
-    Refused { path: String, fault: Fault },
-    // a file cannot be read or written
-    File { path: String, error: io::Error },
+    // there is trouble with the file at the path
+    #[error("{path}: {trouble}")]
+    About { path: String, trouble: Trouble },
     // the program's own words cannot be read, or standard output cannot be written
-    Io(io::Error),
+    #[error("{0}")]
+    Io(#[from] io::Error),
     // there is not enough memory
-    Memory,
+    #[error("not enough memory")]
+    Memory(#[from(alloc)] AllocError),
     // the tour did not come to its end
-    Tour(anyhow::Error),
+    #[error("{0}")]
+    Tour(#[from] anyhow::Error),
 }
 
 impl Failure {
-    // A refusal, told with the path of the file that it is about.
-    pub fn of_fault(heap: Global, path: &str, fault: Fault) -> Failure {
-        match String::from_str(heap, path) {
-            Ok(path) => Failure::Refused { path, fault },
-            Err(_) => Failure::Memory,
-        }
-    }
-
-    // A file's error, told with its path.
-    pub fn of_file(heap: Global, path: &str, error: io::Error) -> Failure {
-        match String::from_str(heap, path) {
-            Ok(path) => Failure::File { path, error },
-            Err(_) => Failure::Memory,
-        }
-    }
-}
-
-// What a call answers, or the failure with the path of the file that it is about.
-pub fn accepted<T>(heap: Global, path: &str, r: Result<T, Fault>) -> Result<T, Failure> {
-    match r {
-        Ok(x) => Ok(x),
-        Err(fault) => Err(Failure::of_fault(heap, path, fault)),
-    }
-}
-
-// The same of what a file's call answers.
-pub fn done<T>(heap: Global, path: &str, r: io::Result<T>) -> Result<T, Failure> {
-    match r {
-        Ok(x) => Ok(x),
-        Err(error) => Err(Failure::of_file(heap, path, error)),
-    }
-}
-
-impl fmt::Display for Failure {
-    fn fmt<W: fmt::Write>(&self, f: &mut fmt::Formatter<W>) -> fmt::Result {
-        match self {
-            Failure::Usage => write!(f, "no such command"),
-            Failure::Refused { path, fault } => {
-                let refusal = Refusal(*fault);
-                write!(f, "{path}: refused: {refusal}")
-            }
-            Failure::File { path, error } => write!(f, "{path}: {error}"),
-            Failure::Io(error) => write!(f, "{error}"),
-            Failure::Memory => write!(f, "not enough memory"),
-            Failure::Tour(error) => write!(f, "{error}"),
+    // The trouble, told with the path of the file that it is about.
+    pub fn about(
+        heap: Global,
+        path: impl fmt::Display + Drop,
+        trouble: impl Into<Trouble> + Drop,
+    ) -> Failure {
+        match path.to_string(heap) {
+            Ok(path) => Failure::About {
+                path,
+                trouble: trouble.into(),
+            },
+            Err(error) => Failure::Memory(error),
         }
     }
 }
 
-impl From<io::Error> for Failure {
-    fn from(error: io::Error) -> Failure {
-        Failure::Io(error)
-    }
+// A result whose trouble, if it has one, is told with the path of a file: `check(&stream).about(heap, path)?`.
+pub trait About<T> {
+    fn about(self, heap: Global, path: &str) -> Result<T, Failure>;
 }
 
-impl From<AllocError> for Failure {
-    fn from(_error: AllocError) -> Failure {
-        Failure::Memory
-    }
-}
-
-impl<T: Drop> From<AllocFailed<T>> for Failure {
-    fn from(_error: AllocFailed<T>) -> Failure {
-        Failure::Memory
-    }
-}
-
-impl From<anyhow::Error> for Failure {
-    fn from(error: anyhow::Error) -> Failure {
-        Failure::Tour(error)
+impl<T, E: Into<Trouble> + Drop> About<T> for Result<T, E> {
+    fn about(self, heap: Global, path: &str) -> Result<T, Failure> {
+        self.map_err(|error| Failure::about(heap, path, error))
     }
 }

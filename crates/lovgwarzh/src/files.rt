@@ -1,4 +1,4 @@
-use crate::failure::{Failure, done};
+use crate::failure::{About, Failure};
 use std::fs::File;
 use std::io::{ErrorKind, Read, Write};
 use std::{fs, io};
@@ -10,13 +10,13 @@ pub const MOST_BYTES: u64 = 1 << 32;
 // without an end, is told rather than cut.
 pub fn read_file(rt: &HostRuntime, path: &str) -> Result<Vec<u8>, Failure> {
     let heap = rt.alloc();
-    let file = done(heap, path, File::open(rt, path))?;
+    let file = File::open(rt, path).about(heap, path)?;
     let mut bytes = Vec::new(heap);
     let read = file.take(MOST_BYTES + 1).read_to_end(&mut bytes);
-    done(heap, path, read)?;
+    read.about(heap, path)?;
     if bytes.len() as u64 > MOST_BYTES {
         let error = io::Error::other("longer than 4 GiB");
-        return Err(Failure::of_file(heap, path, error));
+        return Err(Failure::about(heap, path, error));
     }
     Ok(bytes)
 }
@@ -25,20 +25,10 @@ pub fn read_file(rt: &HostRuntime, path: &str) -> Result<Vec<u8>, Failure> {
 // since another file is going to take the path's name.
 fn stands(rt: &HostRuntime, path: &str) -> io::Result<bool> {
     match fs::symlink_metadata(rt, path) {
-        Ok(found) => {
-            if found.is_file() {
-                Ok(true)
-            } else {
-                Err(io::Error::other("not a plain file"))
-            }
-        }
-        Err(error) => {
-            if error.kind() == ErrorKind::NotFound {
-                Ok(false)
-            } else {
-                Err(error)
-            }
-        }
+        Ok(found) if found.is_file() => Ok(true),
+        Ok(_) => Err(io::Error::other("not a plain file")),
+        Err(error) if error.kind() == ErrorKind::NotFound => Ok(false),
+        Err(error) => Err(error),
     }
 }
 
@@ -62,10 +52,10 @@ fn fill_and_rename(rt: &HostRuntime, new: &str, path: &str, bytes: &[u8]) -> io:
 pub fn write_file(rt: &HostRuntime, path: &str, bytes: &[u8]) -> Result<(), Failure> {
     let heap = rt.alloc();
     let new = format!(in heap; "{path}.tmp")?;
-    done(heap, new.as_str(), File::create_new(rt, new.as_str()))?;
+    File::create_new(rt, new.as_str()).about(heap, new.as_str())?;
     let filled = fill_and_rename(rt, new.as_str(), path, bytes);
     if filled.is_err() {
         let _ = fs::remove_file(rt, new.as_str());
     }
-    done(heap, path, filled)
+    filled.about(heap, path)
 }

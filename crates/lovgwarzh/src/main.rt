@@ -8,12 +8,10 @@ use std::process::ExitCode;
 use std::{env, io};
 use tour::{show_streams, show_tour};
 
-mod chain;
 mod command;
 mod commands;
 mod failure;
 mod files;
-mod refusal;
 mod samples;
 mod series;
 mod tour;
@@ -41,10 +39,7 @@ fn carry_out(rt: &HostRuntime, command: Command) -> Result<(), Failure> {
 
 // Reads the words of the command line, and does what they say.
 fn run(rt: &HostRuntime) -> Result<(), Failure> {
-    let mut words = Vec::new(rt.alloc());
-    for word in env::args(rt)?.skip(1) {
-        words.push(word)?;
-    }
+    let words: Vec<String> = env::args(rt)?.skip(1).collect(rt.alloc())?;
     match parse(&words) {
         Some(command) => carry_out(rt, command),
         None => Err(Failure::Usage),

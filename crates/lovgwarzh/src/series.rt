@@ -1,6 +1,5 @@
-use crate::chain::{write_first, write_fourth, write_second, write_third};
-use crate::refusal::Refusal;
-use crate::tour::{front, written};
+use crate::samples::CHAIN;
+use crate::tour::{front, show_bytes};
 use anyhow::anyhow;
 use apply::apply;
 use fault::Fault;
@@ -10,7 +9,7 @@ use shelf::Shelf;
 use std::io::Write;
 use store::{FlatImage, Store};
 
-// The shelf's bytes are handed in whole.
+// The shelf's bytes are handed in whole: a call takes all of them where there are no more.
 const WHOLE: usize = usize::MAX;
 
 // Where joined streams and the texts of the two lists stand in the series' buffer.
@@ -29,40 +28,39 @@ const LAST_TEXT: Window = Window {
     length: 64,
 };
 
-// What each call of the series is.
-const STEPS: [&str; 14] = [
-    "put a to b",
-    "put b to c",
-    "put c to d",
-    "put d to e",
-    "put a to b once more",
-    "join entries 1 and 2, the middle pair",
-    "list entry 1",
-    "list entry 1, the shelf's bytes cut short",
-    "settle entry 0",
-    "join entries 0 and 1",
-    "settle entry 0",
-    "list entry 0",
-    "settle entry 0",
-    "settle entry 0",
-];
+// A call of the series, and what it is.
+#[derive(Clone, Copy)]
+struct Step<'a> {
+    words: &'static str,
+    request: Request<'a>,
+}
 
-// The calls of the series, on a chain of four streams.
-fn requests<'a>(chain: [&'a [u8]; 4]) -> [Request<'a>; 14] {
-    let settle = Request::Settle { handed: WHOLE };
+impl<'a> Step<'a> {
+    fn new(words: &'static str, request: Request<'a>) -> Step<'a> {
+        Step { words, request }
+    }
+}
+
+// The series, on a chain of four streams.
+fn series_on<'a>(chain: [&'a [u8]; 4]) -> [Step<'a>; 14] {
+    let [first, second, third, fourth] = chain;
+    let settle = Step::new("settle entry 0", Request::Settle { handed: WHOLE });
     [
-        put(chain[0]),
-        put(chain[1]),
-        put(chain[2]),
-        put(chain[3]),
-        put(chain[0]),
-        join(1),
-        list(WHOLE, 1, FIRST_TEXT),
-        list(20, 1, FIRST_TEXT),
+        Step::new("put a to b", put(first)),
+        Step::new("put b to c", put(second)),
+        Step::new("put c to d", put(third)),
+        Step::new("put d to e", put(fourth)),
+        Step::new("put a to b once more", put(first)),
+        Step::new("join entries 1 and 2, the middle pair", join(1)),
+        Step::new("list entry 1", list(WHOLE, 1, FIRST_TEXT)),
+        Step::new(
+            "list entry 1, the shelf's bytes cut short",
+            list(20, 1, FIRST_TEXT),
+        ),
         settle,
-        join(0),
+        Step::new("join entries 0 and 1", join(0)),
         settle,
-        list(WHOLE, 0, LAST_TEXT),
+        Step::new("list entry 0", list(WHOLE, 0, LAST_TEXT)),
         settle,
         settle,
     ]
@@ -93,61 +91,37 @@ fn list(handed: usize, entry: usize, text: Window) -> Request<'static> {
 
 // So many bytes of a buffer from a place on, or all where there are fewer.
 fn part(buffer: &[u8], start: usize, n: usize) -> &[u8] {
-    if start < buffer.len() {
-        front(&buffer[start..], n)
-    } else {
-        &[]
-    }
+    front(buffer.get(start..).unwrap_or(&[]), n)
 }
 
 // Says what came of a call; of a list its text.
 fn show_step(
     rt: &HostRuntime,
-    words: &str,
-    request: Request,
+    step: &Step,
     answer: Result<usize, Fault>,
     buffer: &[u8],
 ) -> anyhow::Result<()> {
-    match answer {
-        Err(f) => {
-            let refusal = Refusal(f);
-            println!(rt; "  {words}: refused: {refusal}")?;
+    let words = step.words;
+    match (answer, step.request) {
+        (Err(fault), _) => println!(rt; "  {words}: refused: {fault}")?,
+        (Ok(n), Request::Join { .. }) => println!(rt; "  {words}: {n} bytes")?,
+        (Ok(n), Request::List { text, .. }) => {
+            println!(rt; "  {words}:")?;
+            rt.stdout().write_all(part(buffer, text.start, n))?;
         }
-        Ok(n) => match request {
-            Request::Join { .. } => println!(rt; "  {words}: {n} bytes")?,
-            Request::List { text, .. } => {
-                println!(rt; "  {words}:")?;
-                rt.stdout().write_all(part(buffer, text.start, n))?;
-            }
-            _ => println!(rt; "  {words}: done")?,
-        },
+        (Ok(_), _) => println!(rt; "  {words}: done")?,
     }
-    Ok(())
-}
-
-// Three bytes of an image from an offset on, a zero as a dot.
-fn show_three<S: Store>(rt: &HostRuntime, image: &S, offset: u64) -> anyhow::Result<()> {
-    let mut bytes = [0u8; 3];
-    if image.read(offset, &mut bytes).is_err() {
-        return Err(anyhow!("the image ends before these bytes"));
-    }
-    for b in bytes.iter_mut() {
-        if *b == 0 {
-            *b = b'.';
-        }
-    }
-    rt.stdout().write_all(&bytes)?;
     Ok(())
 }
 
 // The bytes of an image that the chain speaks of.
 fn show_pages<S: Store>(rt: &HostRuntime, what: &str, image: &S) -> anyhow::Result<()> {
     print!(rt; "{what}: ")?;
-    show_three(rt, image, 0)?;
+    show_bytes(rt, image, 0, 3)?;
     print!(rt; " at 0, ")?;
-    show_three(rt, image, 256)?;
+    show_bytes(rt, image, 256, 3)?;
     print!(rt; " at 256, ")?;
-    show_three(rt, image, 512)?;
+    show_bytes(rt, image, 512, 3)?;
     println!(rt; " at 512")?;
     Ok(())
 }
@@ -167,23 +141,24 @@ fn play_series<S: Store>(
 ) -> anyhow::Result<Shelf> {
     let mut bytes = [0u8; 512];
     let mut buffer = [0u8; 384];
-    let calls = requests(chain);
+    let steps = series_on(chain);
+    let calls = steps.map(|step| step.request);
     let mut answers: [Result<usize, Fault>; 14] = [Ok(0); 14];
     let Ok(shelf) = replay(b"a", base, &mut bytes, &mut buffer, &calls, &mut answers) else {
         return Err(anyhow!("the base name was refused"));
     };
-    for i in 0..14 {
-        show_step(rt, STEPS[i], calls[i], answers[i], &buffer)?;
+    for (step, answer) in steps.iter().zip(answers) {
+        show_step(rt, step, answer, &buffer)?;
     }
     Ok(shelf)
 }
 
 // The four streams applied one after another to another image.
 fn apply_chain<S: Store>(image: &mut S, chain: [&[u8]; 4]) -> Result<(), Fault> {
-    apply(chain[0], b"a", image)?;
-    apply(chain[1], b"b", image)?;
-    apply(chain[2], b"c", image)?;
-    apply(chain[3], b"d", image)
+    for (stream, difference) in chain.iter().zip(&CHAIN) {
+        apply(stream, difference.from, image)?;
+    }
+    Ok(())
 }
 
 // A series of calls on a shelf, and the base image that comes back.
@@ -209,19 +184,10 @@ fn show_chain(rt: &HostRuntime, chain: [&[u8]; 4]) -> anyhow::Result<()> {
 
 // Writes the chain and plays the series.
 pub fn show_series(rt: &HostRuntime) -> anyhow::Result<()> {
-    let mut first = [0u8; 96];
-    let mut second = [0u8; 96];
-    let mut third = [0u8; 96];
-    let mut fourth = [0u8; 96];
-    let i = written(rt, write_first(&mut first))?;
-    let j = written(rt, write_second(&mut second))?;
-    let k = written(rt, write_third(&mut third))?;
-    let l = written(rt, write_fourth(&mut fourth))?;
-    let chain = [
-        front(&first, i),
-        front(&second, j),
-        front(&third, k),
-        front(&fourth, l),
-    ];
-    show_chain(rt, chain)
+    let [first, second, third, fourth] = &CHAIN;
+    let first = first.stream(rt)?;
+    let second = second.stream(rt)?;
+    let third = third.stream(rt)?;
+    let fourth = fourth.stream(rt)?;
+    show_chain(rt, [&first, &second, &third, &fourth])
 }

@@ -1,11 +1,9 @@
 // A tour of the work: it writes a difference stream, checks it, lists it, shows refusals, joins two
 // streams, applies the join, and plays a series of calls on a shelf.
-use crate::refusal::Refusal;
-use crate::samples::{write_cut, write_grown, write_sample};
+use crate::samples::{CUT, GROWN, SAMPLE, accepted};
 use crate::series::show_series;
 use anyhow::anyhow;
 use apply::apply;
-use fault::Fault;
 use join::join;
 use listing::list;
 use std::io::Write;
@@ -15,7 +13,7 @@ use writer::Opened;
 
 // The first `n` bytes, or all where there are fewer.
 pub fn front(bytes: &[u8], n: usize) -> &[u8] {
-    if n < bytes.len() { &bytes[0..n] } else { bytes }
+    bytes.get(..n).unwrap_or(bytes)
 }
 
 // Checks bytes, and says what they are called and what came of it.
@@ -23,10 +21,7 @@ fn show_check(rt: &HostRuntime, what: &str, stream: &[u8]) -> anyhow::Result<()>
     let n = stream.len();
     match check(stream) {
         Ok(()) => println!(rt; "check of {what}, {n} bytes: accepted")?,
-        Err(f) => {
-            let refusal = Refusal(f);
-            println!(rt; "check of {what}, {n} bytes: refused: {refusal}")?
-        }
+        Err(fault) => { println!(rt; "check of {what}, {n} bytes: refused: {fault}")? }
     }
     Ok(())
 }
@@ -39,9 +34,8 @@ fn show_list(rt: &HostRuntime, stream: &[u8]) -> anyhow::Result<()> {
             println!(rt; "its ranges (touching records of one kind are one range):")?;
             rt.stdout().write_all(front(&text, n))?;
         }
-        Err(f) => {
-            let refusal = Refusal(f);
-            println!(rt; "list: refused: {refusal}")?;
+        Err(fault) => {
+            println!(rt; "list: refused: {fault}")?;
         }
     }
     Ok(())
@@ -56,8 +50,8 @@ fn show_refused_record(rt: &HostRuntime) -> anyhow::Result<()> {
     match recording.zero(&mut out, 9, 2) {
         Ok(_) => println!(rt; "a range past the size was taken")?,
         Err(refused) => {
-            let refusal = Refusal(refused.fault);
-            println!(rt; "zeros at 9, length 2, in an image of 10 bytes: refused: {refusal}")?;
+            let fault = refused.fault;
+            println!(rt; "zeros at 9, length 2, in an image of 10 bytes: refused: {fault}")?;
             match refused.writer.zero(&mut out, 9, 1) {
                 Ok(_) => println!(rt;
                     "the same with length 1: written, with the writer that came back"
@@ -69,50 +63,48 @@ fn show_refused_record(rt: &HostRuntime) -> anyhow::Result<()> {
     Ok(())
 }
 
-// What was written, or the refusal, said before it ends the tour.
-pub fn written(rt: &HostRuntime, r: Result<usize, Fault>) -> anyhow::Result<usize> {
-    match r {
-        Ok(n) => Ok(n),
-        Err(f) => {
-            let refusal = Refusal(f);
-            println!(rt; "refused: {refusal}")?;
-            Err(anyhow!("a call of the tour was refused"))
-        }
-    }
-}
-
 // A stream that was written, checked and listed, and refusals.
 fn show_one_stream(rt: &HostRuntime) -> anyhow::Result<()> {
-    let mut out = [0u8; 128];
-    let n = written(rt, write_sample(&mut out))?;
+    let stream = SAMPLE.stream(rt)?;
     println!(rt;
         "wrote a stream from snapshot a to snapshot b, image size 10: bytes WXYZ at 2, bytes 12 at 6, a zero at 9"
     )?;
-    let stream = front(&out, n);
-    show_check(rt, "the stream", stream)?;
-    show_list(rt, stream)?;
-    show_check(
-        rt,
-        "the stream without its last byte",
-        front(stream, n.saturating_sub(1)),
-    )?;
-    show_check(rt, "the header alone", front(stream, 12))?;
+    show_check(rt, "the stream", &stream)?;
+    show_list(rt, &stream)?;
+    if let [cut @ .., _] = &stream[..] {
+        show_check(rt, "the stream without its last byte", cut)?;
+    }
+    show_check(rt, "the header alone", front(&stream, 12))?;
     show_refused_record(rt)
 }
 
-// Prints the bytes of an image, a zero as a dot.
-fn show_image<S: Store>(rt: &HostRuntime, what: &str, image: &S) -> anyhow::Result<()> {
-    let mut bytes = [0u8; 10];
-    if image.size() != 10 || image.read(0, &mut bytes).is_err() {
-        return Err(anyhow!("the image does not have 10 bytes"));
+// Prints `n` bytes of an image from an offset on, a zero as a dot.
+pub fn show_bytes<S: Store>(
+    rt: &HostRuntime,
+    image: &S,
+    offset: u64,
+    n: usize,
+) -> anyhow::Result<()> {
+    let mut bytes = vec![in rt.alloc(); 0u8; n]?;
+    if image.read(offset, &mut bytes).is_err() {
+        return Err(anyhow!("the image ends before these bytes"));
     }
     for b in bytes.iter_mut() {
         if *b == 0 {
             *b = b'.';
         }
     }
-    print!(rt; "{what}: ")?;
     rt.stdout().write_all(&bytes)?;
+    Ok(())
+}
+
+// Prints the bytes of an image of 10 bytes.
+fn show_image<S: Store>(rt: &HostRuntime, what: &str, image: &S) -> anyhow::Result<()> {
+    if image.size() != 10 {
+        return Err(anyhow!("the image does not have 10 bytes"));
+    }
+    print!(rt; "{what}: ")?;
+    show_bytes(rt, image, 0, 10)?;
     println!(rt; "")?;
     Ok(())
 }
@@ -124,9 +116,8 @@ fn show_apply(rt: &HostRuntime, stream: &[u8]) -> anyhow::Result<()> {
     show_image(rt, "an image at snapshot a", &image)?;
     match apply(stream, b"b", &mut image) {
         Ok(()) => println!(rt; "the join was applied to an image at another snapshot")?,
-        Err(f) => {
-            let refusal = Refusal(f);
-            println!(rt; "were it at snapshot b, the join would be refused: {refusal}")?;
+        Err(fault) => {
+            println!(rt; "were it at snapshot b, the join would be refused: {fault}")?;
         }
     }
     match apply(stream, b"a", &mut image) {
@@ -137,25 +128,23 @@ fn show_apply(rt: &HostRuntime, stream: &[u8]) -> anyhow::Result<()> {
 
 // Two streams that follow each other, as one.
 fn show_join(rt: &HostRuntime) -> anyhow::Result<()> {
-    let mut earlier = [0u8; 64];
-    let mut later = [0u8; 64];
-    let mut joined = [0u8; 128];
-    let n = written(rt, write_cut(&mut earlier))?;
-    let m = written(rt, write_grown(&mut later))?;
+    let earlier = CUT.stream(rt)?;
+    let later = GROWN.stream(rt)?;
+    let mut buffer = [0u8; 128];
     println!(rt;
         "wrote two more: from a to b the image is cut to 4 bytes; from b to c it grows to 10, with k at 8"
     )?;
-    let k = written(rt, join(front(&earlier, n), front(&later, m), &mut joined))?;
+    let length = accepted(rt, join(&earlier, &later, &mut buffer))?;
     println!(rt;
-        "their join leads from a to c, {k} bytes; what grew back is zero, not what was there before"
+        "their join leads from a to c, {length} bytes; what grew back is zero, not what was there before"
     )?;
-    show_list(rt, front(&joined, k))?;
-    show_apply(rt, front(&joined, k))?;
-    match join(front(&later, m), front(&earlier, n), &mut joined) {
+    let joined = front(&buffer, length);
+    show_list(rt, joined)?;
+    show_apply(rt, joined)?;
+    match join(&later, &earlier, &mut buffer) {
         Ok(_) => println!(rt; "the two were joined the other way round")?,
-        Err(f) => {
-            let refusal = Refusal(f);
-            println!(rt; "the two the other way round: refused: {refusal}")?;
+        Err(fault) => {
+            println!(rt; "the two the other way round: refused: {fault}")?;
         }
     }
     Ok(())

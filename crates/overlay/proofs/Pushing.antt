@@ -1,6 +1,6 @@
 -- A run or a piece added after canonical runs. Assumes nothing.
-use Rattle.std.proofs.Common.{◌≡◌, ℕ, ◌+◌, ◌-◌, ◌%◌, ◌^◌, ◌<◌, ◌≤◌, List, [], ◌∷◌, ◌++◌, length, get_or, take, drop, set, Some, None, Option, sym, refl, ap, ◌∙◌, arith}
-use Rattle.std.proofs.lemmas.List.{take_more, take_more_set, take_all, length_push, drop-drop}
+use Rattle.std.proofs.Common.{◌≡◌, ℕ, ◌+◌, ◌-◌, ◌%◌, ◌^◌, ◌<◌, ◌≤◌, List, [], ◌∷◌, ◌++◌, length, get_or, take, drop, set, Some, None, Option, sym, refl, ap, ◌∙◌, subst, arith}
+use Rattle.std.proofs.lemmas.List.{take_more, take_more_set, take_all, take-append-le, length-set, length_push, nil_from_length, drop-drop}
 use Rattle.overlay.specs.declared.runs.Run.{Run}
 use Rattle.overlay.specs.declared.runs.Piece.{Piece}
 use Rattle.overlay.specs.States.{over}
@@ -31,7 +31,7 @@ module _ {M : Type 0} (moves : M → ℕ → M) (further : (m : M) (a b : ℕ) �
     grows = omega (arith, length_push (xs ++ l ∷ []) r);
   }
 
-  pub push_merged : (xs : List (Run M)) (l r m : Run M) → Rising 0 (xs ++ l ∷ []) r.offset → Apart moves (xs ++ l ∷ []) → 1 ≤ r.length → ends r < 2 ^ 64
+  push_merged : (xs : List (Run M)) (l r m : Run M) → Rising 0 (xs ++ l ∷ []) r.offset → Apart moves (xs ++ l ∷ []) → 1 ≤ r.length → ends r < 2 ^ 64
       → ends l ≡ r.offset → moves l.mark l.length ≡ r.mark
       → m.offset ≡ l.offset → m.length ≡ l.length + r.length → m.mark ≡ l.mark
       → Pushed moves (xs ++ l ∷ []) r (xs ++ m ∷ [])
@@ -48,29 +48,45 @@ module _ {M : Type 0} (moves : M → ℕ → M) (further : (m : M) (a b : ℕ) �
             ∙ ap (λ z. over z (run_at moves r p)) (ap (over (at moves xs p)) (sym (over_none _)) ∙ sym (at_append moves xs (l ∷ []) p));
       }
 
--- the first k of a list, with the last of them apart
-pub last_split : {X : Type 0} (xs : List X) (k : ℕ) (l : X) → 0 < k → k ≤ length xs → l ≡ get_or xs (k - 1) l → take k xs ≡ take (k - 1) xs ++ l ∷ []
-last_split xs k l h w e =
-    let n : k - 1 + 1 ≡ k = omega arith in
-    rw (n) at (take_more xs (k - 1) l (omega arith)) ∙ ap (λ x. take (k - 1) xs ++ x ∷ []) (sym e)
+-- a list with its last apart
+pub last_of : {X : Type 0} (xs : List X) (l : X) → 1 ≤ length xs → l ≡ get_or xs (length xs - 1) l → xs ≡ take (length xs - 1) xs ++ l ∷ []
+last_of xs l h e =
+    let n : length xs - 1 + 1 ≡ length xs = omega arith in
+    sym (take_all (length xs) xs (omega arith)) ∙ rw (n) at (take_more xs (length xs - 1) l (omega arith)) ∙ ap (λ x. take (length xs - 1) xs ++ x ∷ []) (sym e)
 
-pub last_stored : {X : Type 0} (xs : List X) (k : ℕ) (m : X) → 0 < k → k ≤ length xs → take k (set xs (k - 1) m) ≡ take (k - 1) xs ++ m ∷ []
-last_stored xs k m h w =
-    let n : k - 1 + 1 ≡ k = omega arith in
-    rw (n) at (take_more_set xs (k - 1) m (omega arith))
+-- and with another last
+pub last_set : {X : Type 0} (xs : List X) (m : X) → 1 ≤ length xs → set xs (length xs - 1) m ≡ take (length xs - 1) xs ++ m ∷ []
+last_set xs m h =
+    let n : length xs - 1 + 1 ≡ length xs = omega arith in
+    sym (take_all (length xs) (set xs (length xs - 1) m) (simp length-set (omega arith))) ∙ rw (n) at (take_more_set xs (length xs - 1) m (omega arith))
 
--- a run that does not go on as the last of the first k is added to them
-module _ {M : Type 0} (moves : M → ℕ → M) (further : (m : M) (a b : ℕ) → moves (moves m a) b ≡ moves m ((a + b) % 2 ^ 64)) (out : List (Run M)) (k : ℕ) (r : Run M)
-    (within : k ≤ length out) (rising : Rising 0 (take k out) r.offset) (apart : Apart moves (take k out)) (some : 1 ≤ r.length) where
-  pub added_first : k ≤ 0 → Pushed moves (take k out) r (take k out ++ r ∷ [])
-  added_first h =
-      let e : k ≡ 0 = omega arith in
-      rw e (push_first moves further r some)
+-- a front that is written back
+pub taken : {X : Type 0} (k : ℕ) (xs ys : List X) → length xs ≡ k → take k (xs ++ ys) ≡ xs
+taken k xs ys e = take-append-le k xs ys (omega arith) ∙ take_all k xs (omega arith)
 
-  pub added_next : (l : Run M) → 0 < k → l ≡ get_or out (k - 1) l → ((ends l ≡ r.offset) × (moves l.mark l.length ≡ r.mark) → ⊥) → Pushed moves (take k out) r (take k out ++ r ∷ [])
-  added_next l h e n =
-      let split = last_split out k l h within e in
-      rw split (push_next moves further (take (k - 1) out) l r (rw split at rising) (rw split at apart) some (λ a b. n (a, b)))
+-- a run after others of which it may go on as the last
+module _ {M : Type 0} (moves : M → ℕ → M) (further : (m : M) (a b : ℕ) → moves (moves m a) b ≡ moves m ((a + b) % 2 ^ 64)) (xs : List (Run M)) (r : Run M)
+    (rising : Rising 0 xs r.offset) (apart : Apart moves xs) (some : 1 ≤ r.length) where
+  pub added_first : length xs < 1 → Pushed moves xs r (xs ++ r ∷ [])
+  added_first h = subst (λ ys. Pushed moves ys r (ys ++ r ∷ [])) (sym (nil_from_length xs (omega arith))) (push_first moves further r some)
+
+  module _ (l : Run M) (h : 1 ≤ length xs) (e : l ≡ get_or xs (length xs - 1) l) where
+    pub last_under : ends l ≤ r.offset
+    last_under = (rising_last 0 r.offset (take (length xs - 1) xs) l (subst (λ ys. Rising 0 ys r.offset) (last_of xs l h e) rising)).under
+
+    pub added_next : ((ends l ≡ r.offset) × (moves l.mark l.length ≡ r.mark) → ⊥) → Pushed moves xs r (xs ++ r ∷ [])
+    added_next n =
+        let split = last_of xs l h e in
+        subst (λ ys. Pushed moves ys r (ys ++ r ∷ [])) (sym split)
+        (push_next moves further (take (length xs - 1) xs) l r (subst (λ ys. Rising 0 ys r.offset) split rising) (subst (Apart moves) split apart) some (λ a b. n (a, b)))
+
+    pub merged : ends r < 2 ^ 64 → (ends l ≡ r.offset) × (moves l.mark l.length ≡ r.mark) → Pushed moves xs r (set xs (length xs - 1) (record { offset = l.offset; length = l.length + r.length; mark = l.mark }))
+    merged b on =
+        let split = last_of xs l h e in
+        let m : Run M = record { offset = l.offset; length = l.length + r.length; mark = l.mark } in
+        subst (λ ys. Pushed moves xs r ys) (sym (last_set xs m h))
+        (subst (λ ys. Pushed moves ys r (take (length xs - 1) xs ++ m ∷ [])) (sym split)
+        (push_merged moves further (take (length xs - 1) xs) l r m (subst (λ ys. Rising 0 ys r.offset) split rising) (subst (Apart moves) split apart) some b on.0 on.1 refl refl refl))
 
 pub longer : {X : Type 0} (xs : List X) (k : ℕ) (x : X) → k ≡ length xs → length xs < length (take k xs ++ x ∷ [])
 longer xs k x e = rw (take_all k xs (omega arith), length_push xs x) (omega arith)

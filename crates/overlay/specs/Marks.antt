@@ -1,4 +1,4 @@
--- The two kinds of marks: how they move on, which is the filler, and when two mean the same. Rests on nothing.
+-- The two kinds of marks: how they move on, which is the filler, when two mean the same, and which range mark a payload mark has. Rests on nothing.
 use Rattle.std.specs.Prelude.{ℕ, ◌+◌, ◌%◌, ◌^◌, Bool, true, false, cond, ◌&&◌, ◌==◌, nat_lt}
 use Rattle.overlay.specs.declared.ranges.RangeMark.{RangeMark}
 use Rattle.overlay.specs.declared.ranges.RangeMark.TheVariants as range
@@ -41,3 +41,8 @@ payload_alike Zeroed Zeroed = true
 payload_alike Zeroed (Written s p) = false
 payload_alike (Written s p) Zeroed = false
 payload_alike (Written s p) (Written t q) = side_alike s t && p == q
+
+-- the kind of a payload mark
+abbrev pub range_of : PayloadMark → RangeMark
+range_of Zeroed = range.Zeroed
+range_of (Written side place) = range.Written

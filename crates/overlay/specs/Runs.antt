@@ -2,6 +2,7 @@
 -- has. A run is an offset, a length and the mark of its first byte. Rests on States.
 use Rattle.std.specs.Prelude.{◌≡◌, ℕ, ◌+◌, ◌-◌, ◌<◌, ◌≤◌, Bool, cond, ◌&&◌, List, [], ◌∷◌, map, length, take, Some, None, Option, ◌==◌, ◌≢◌, nat_le, nat_lt}
 use Rattle.std.specs.List.{range_with_len}
+use Rattle.std.specs.Coded.{le_prop}
 use Rattle.overlay.specs.declared.runs.Run.{Run}
 use Rattle.overlay.specs.States.{over}
 
@@ -30,6 +31,11 @@ overlaid_at moves filler earlier size later p = over (at moves later p) (cond (n
 abbrev pub Rising : {M : Type 0} → ℕ → List (Run M) → ℕ → Type 0
 Rising a [] b = a ≤ b
 Rising a (r ∷ rs) b = (a ≤ r.offset) × (1 ≤ r.length) × Rising (ends r) rs b
+
+-- that runs rise can be shown in one way only, so that a sheet can keep it
+pub rising_prop : {M : Type 0} (a : ℕ) (rs : List (Run M)) (b : ℕ) → IsProp (Rising a rs b)
+rising_prop a [] b = le_prop
+rising_prop a (r ∷ rs) b = λ h k i. (le_prop h.0 k.0 i, le_prop h.1 k.1 i, rising_prop (ends r) rs b h.2 k.2 i)
 
 -- the run does not go on as the first of the others
 abbrev pub Parted : {M : Type 0} → (M → ℕ → M) → Run M → List (Run M) → Type 0

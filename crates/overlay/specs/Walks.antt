@@ -1,6 +1,6 @@
--- How the overlay walks two lists of runs and adds to a third: cursors into runs, pieces of even states, edges to pass,
+-- How the overlay walks two lists of runs and adds to a third: the runs that are left, pieces of even states, edges to pass,
 -- and what adding a run or a piece does. Rests on Runs.
-use Rattle.std.specs.Prelude.{◌≡◌, ℕ, ◌+◌, ◌-◌, ◌<◌, ◌≤◌, Bool, true, false, cond, List, [], ◌∷◌, length, take, drop, Some, None, Option, nat_lt}
+use Rattle.std.specs.Prelude.{◌≡◌, ℕ, ◌+◌, ◌-◌, ◌<◌, ◌≤◌, cond, List, [], ◌∷◌, length, take, drop, Some, None, Option, nat_le, nat_lt}
 use Rattle.overlay.specs.declared.runs.Run.{Run}
 use Rattle.overlay.specs.declared.runs.Piece.{Piece}
 use Rattle.overlay.specs.States.{over}
@@ -11,20 +11,15 @@ abbrev pub shifted : {M : Type 0} → (M → ℕ → M) → Option M → ℕ →
 shifted moves None k = None
 shifted moves (Some m) k = Some (moves m k)
 
--- the runs from i on give each position from pos on what all the runs give it
-pub record Cursor {M : Type 0} (moves : M → ℕ → M) (runs : List (Run M)) (i pos : ℕ) : Type 0 where
-  pub within : i ≤ length runs
-  pub same : (p : ℕ) → pos ≤ p → at moves (drop i runs) p ≡ at moves runs p
+-- the runs without the first of them, as long as these end by pos
+abbrev pub runs_left : {M : Type 0} → ℕ → List (Run M) → List (Run M)
+runs_left pos [] = []
+runs_left pos (r ∷ rs) = cond (nat_le (ends r) pos) (runs_left pos rs) (r ∷ rs)
 
 -- the first run ends after pos
 abbrev pub Ahead : {M : Type 0} → ℕ → List (Run M) → Type 0
 Ahead pos [] = Unit {0}
 Ahead pos (r ∷ rs) = pos < ends r
-
--- whether the run at i may be passed: then the cursor goes on behind it, else the run ends after pos or there is none
-abbrev pub Passed : {M : Type 0} → (M → ℕ → M) → List (Run M) → ℕ → ℕ → Bool → Type 0
-Passed moves runs i pos true = Cursor moves runs (i + 1) pos
-Passed moves runs i pos false = Ahead pos (drop i runs)
 
 -- from pos up to the piece's end, the states are the piece's state moved on
 pub record Even {M : Type 0} (moves : M → ℕ → M) (states : ℕ → Option M) (pos size : ℕ) (piece : Piece M) : Type 0 where
@@ -44,6 +39,11 @@ edges_after p (r ∷ rs) = tick p r.offset + tick p (ends r) + edges_after p rs
 -- the same, and the size where it lies after the position
 unfoldable pub edges : {M : Type 0} → ℕ → List (Run M) → ℕ → ℕ
 edges p rs size = edges_after p rs + tick p size
+
+-- runs of which some are left: from pos on these give each position what all of them give it, and have the same edges
+pub record Left {M : Type 0} (moves : M → ℕ → M) (runs : List (Run M)) (pos : ℕ) (left : List (Run M)) : Type 0 where
+  pub same : (p : ℕ) → pos ≤ p → at moves left p ≡ at moves runs p
+  pub edges : (p : ℕ) → pos ≤ p → edges_after p left ≡ edges_after p runs
 
 -- a run is added to runs that end at or before its offset
 pub record Pushed {M : Type 0} (moves : M → ℕ → M) (before : List (Run M)) (r : Run M) (after : List (Run M)) : Type 0 where

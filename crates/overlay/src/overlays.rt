@@ -3,44 +3,40 @@ ghost use Rattle.overlay.specs.Runs.{ends, painted, overlaid_at, Rising, Apart, 
 ghost use Rattle.overlay.specs.States.{overlaid};
 ghost use Rattle.overlay.specs.Walks.{Pushed, Grown, Counted, Behind};
 
-use super::cursors::{covered, skip};
 use super::marks::Mark;
 use super::runs::{Piece, Run};
+use super::sheets::{Sheet, covered};
 
 // Whether `next` begins where `last` ends and goes on as it.
 fn continues<M: Mark + Copy>(last: Run<M>, next: Run<M>) -> bool
     requires { ends last < 2 ^ 64 }
     ensures { Decides result ((ends last ≡ next.offset) × (M.moves last.mark last.length ≡ next.mark)) }
 {
-    last.offset + last.length == next.offset && last.mark.moved(last.length).same(next.mark)
+    last.end() == next.offset && last.mark.moved(last.length) == next.mark
 }
 
 // Adds a run after the first k of `out`, or lengthens the last of them by it where it goes on as
-// that one, and returns how many there are then; None where there is no room for one more.
-fn push<M: Mark + Copy>(out: &mut [Run<M>], k: usize, r: Run<M>) -> Option<usize>
+// that one, and returns how many there are then; None where there is no room for one more. (The
+// buffer is the caller's and stays whole, so the count goes beside it, here and in `add`.)
+fn push<M: Mark + Copy>(out: &mut [Run<M>], k: usize, run: Run<M>) -> Option<usize>
     requires within { k ≤ length out.old }
-    requires rising { Rising 0 (take k out.old) r.offset }
+    requires rising { Rising 0 (take k out.old) run.offset }
     requires apart { Apart M.moves (take k out.old) }
-    requires some { 1 ≤ r.length }
-    requires fits { ends r < 2 ^ 64 }
-    ensures counted { Counted result out.new (Pushed M.moves (take k out.old) r) }
+    requires some { 1 ≤ run.length }
+    requires fits { ends run < 2 ^ 64 }
+    ensures counted { Counted result out.new (Pushed M.moves (take k out.old) run) }
     ensures behind { Behind k result out.old out.new }
 {
-    if k > 0 {
-        let last = out[k - 1];
-        if continues(last, r) {
-            out[k - 1] = Run {
-                offset: last.offset,
-                length: last.length + r.length,
-                mark: last.mark,
-            };
+    if let [.., last] = &mut out[..k] {
+        if continues(*last, run) {
+            last.length += run.length;
             return Some(k);
         }
     }
     if k == out.len() {
         return None;
     }
-    out[k] = r;
+    out[k] = run;
     Some(k + 1)
 }
 
@@ -52,44 +48,38 @@ fn add<M: Mark + Copy>(out: &mut [Run<M>], k: usize, pos: u64, piece: Piece<M>) 
     ensures counted { Counted result out.new (Grown M.moves (take k out.old) pos piece) }
     ensures behind { Behind k result out.old out.new }
 {
-    match piece.state {
-        None => Some(k),
-        Some(mark) => push(
-            out,
-            k,
-            Run {
-                offset: pos,
-                length: piece.stop - pos,
-                mark,
-            },
-        ),
-    }
+    let Some(mark) = piece.state else {
+        return Some(k);
+    };
+    let run = Run {
+        offset: pos,
+        length: piece.stop - pos,
+        mark,
+    };
+    push(out, k, run)
 }
 
 // The loop of `overlay`: piece by piece, from position 0 up to the later size. Each turn passes an edge
-// of a run or a size, and adds at most one run.
+// of a run or a size, and adds at most one run. (It is no `for`: each piece tells where the next begins.)
+#[tactic(auto, using(crate::proofs::Walking::edges_all, crate::proofs::Walking::runs_none, crate::proofs::Walking::left_all))]
 fn overlay_pieces<M: Mark + Copy>(
-    earlier: &[Run<M>],
-    earlier_size: u64,
-    later: &[Run<M>],
-    later_size: u64,
+    earlier: Sheet<M>,
+    later: Sheet<M>,
     out: &mut [Run<M>],
 ) -> Option<usize>
-    requires earlier_rising { Rising 0 earlier.now earlier_size }
-    requires later_rising { Rising 0 later.now later_size }
-    ensures room { 2 * (length earlier.now + length later.now) + 2 ≤ length out.new → is_some result ≡ true }
-    ensures runs { AnswersOf M.moves (overlaid_at M.moves M.filler earlier.now earlier_size later.now) later_size result out.new }
-    ensures equal { Answers (runs_from M.moves M.alike 0 (overlaid M.filler (painted M.moves earlier.now earlier_size) (painted M.moves later.now later_size))) result out.new }
+    ensures room { 2 * (length earlier.entry.runs.now + length later.entry.runs.now) + 2 ≤ length out.new → is_some result ≡ true }
+    ensures runs { AnswersOf M.moves (overlaid_at M.moves M.FILLER earlier.entry.runs.now earlier.entry.size later.entry.runs.now) later.entry.size result out.new }
+    ensures equal { Answers (runs_from M.moves M.alike 0 (overlaid M.FILLER (painted M.moves earlier.entry.runs.now earlier.entry.size) (painted M.moves later.entry.runs.now later.entry.size))) result out.new }
     ensures behind { Behind 0 result out.old out.new }
 {
+    let mut under = earlier;
+    let mut over = later;
     let mut pos = 0;
-    let mut i = 0;
-    let mut j = 0;
     let mut k = 0;
-    while pos < later_size {
-        i = skip(earlier, i, pos);
-        j = skip(later, j, pos);
-        let piece = covered(earlier, i, earlier_size, later, j, later_size, pos);
+    while pos < later.size {
+        under = under.skip(pos);
+        over = over.skip(pos);
+        let piece = covered(under, over, pos);
         k = add(out, k, pos, piece)?;
         pos = piece.stop;
     }
@@ -100,18 +90,14 @@ fn overlay_pieces<M: Mark + Copy>(
 // `out`, and returns how many they are; what lies behind them stays. None where they are more than `out`
 // holds.
 pub fn overlay<M: Mark + Copy>(
-    earlier: &[Run<M>],
-    earlier_size: u64,
-    later: &[Run<M>],
-    later_size: u64,
+    earlier: Sheet<M>,
+    later: Sheet<M>,
     out: &mut [Run<M>],
 ) -> Option<usize>
-    requires earlier_rising { Rising 0 earlier.now earlier_size }
-    requires later_rising { Rising 0 later.now later_size }
-    ensures room { 2 * (length earlier.now + length later.now) + 2 ≤ length out.new → is_some result ≡ true }
-    ensures runs { AnswersOf M.moves (overlaid_at M.moves M.filler earlier.now earlier_size later.now) later_size result out.new }
-    ensures equal { Answers (runs_from M.moves M.alike 0 (overlaid M.filler (painted M.moves earlier.now earlier_size) (painted M.moves later.now later_size))) result out.new }
+    ensures room { 2 * (length earlier.entry.runs.now + length later.entry.runs.now) + 2 ≤ length out.new → is_some result ≡ true }
+    ensures runs { AnswersOf M.moves (overlaid_at M.moves M.FILLER earlier.entry.runs.now earlier.entry.size later.entry.runs.now) later.entry.size result out.new }
+    ensures equal { Answers (runs_from M.moves M.alike 0 (overlaid M.FILLER (painted M.moves earlier.entry.runs.now earlier.entry.size) (painted M.moves later.entry.runs.now later.entry.size))) result out.new }
     ensures behind { Behind 0 result out.old out.new }
 {
-    overlay_pieces(earlier, earlier_size, later, later_size, out)
+    overlay_pieces(earlier, later, out)
 }

@@ -7,14 +7,14 @@ use super::marks::Mark;
 use super::runs::Run;
 
 // Which of two joined streams holds a byte.
-#[derive(Clone, Copy)]
+#[derive(Clone, Copy, Debug, PartialEq, Eq)]
 pub enum Side {
     Earlier,
     Later,
 }
 
 // A payload mark also tells where a written byte stands: in which stream, and at which place of it.
-#[derive(Clone, Copy)]
+#[derive(Clone, Copy, PartialEq, Eq, Debug)]
 pub enum PayloadMark {
     Zeroed,
     Written(Side, u64),
@@ -23,11 +23,13 @@ pub enum PayloadMark {
 impl Mark for PayloadMark {
     ghost moves = { payload_moves };
 
-    ghost filler = { payload_filler };
-
     ghost alike = { payload_alike };
 
     const FILLER: PayloadMark = PayloadMark::Zeroed;
+
+    ghost FILLER = { payload_filler };
+
+    ghost equals = { Prim.search rules };
 
     ghost tells = { Prim.search rules };
 
@@ -37,24 +39,10 @@ impl Mark for PayloadMark {
 
     ghost rests = { Prim.search rules };
 
-    fn fill() -> PayloadMark {
-        Self::FILLER
-    }
-
     fn moved(self, k: u64) -> PayloadMark {
         match self {
             PayloadMark::Zeroed => PayloadMark::Zeroed,
             PayloadMark::Written(side, place) => PayloadMark::Written(side, place.wrapping_add(k)),
-        }
-    }
-
-    fn same(self, other: PayloadMark) -> bool {
-        match (self, other) {
-            (PayloadMark::Zeroed, PayloadMark::Zeroed) => true,
-            (PayloadMark::Written(Side::Earlier, p), PayloadMark::Written(Side::Earlier, q)) => p
-                == q,
-            (PayloadMark::Written(Side::Later, p), PayloadMark::Written(Side::Later, q)) => p == q,
-            _ => false,
         }
     }
 }

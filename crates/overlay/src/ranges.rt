@@ -1,10 +1,12 @@
-ghost use Rattle.overlay.specs.Marks.{range_moves, range_filler, range_alike};
+ghost use Rattle.overlay.specs.Marks.{range_moves, range_filler, range_alike, range_of};
+ghost use Rattle.std.specs.Prelude.{◌≡◌};
 ghost use Rattle.std.proofs.Common.{rules};
 
 use super::marks::Mark;
+use super::payloads::PayloadMark;
 
 // A range mark tells only the kind of a byte: the marks of a difference's canonical records.
-#[derive(Clone, Copy)]
+#[derive(Clone, Copy, PartialEq, Eq, Debug)]
 pub enum RangeMark {
     Zeroed,
     Written,
@@ -13,11 +15,13 @@ pub enum RangeMark {
 impl Mark for RangeMark {
     ghost moves = { range_moves };
 
-    ghost filler = { range_filler };
-
     ghost alike = { range_alike };
 
     const FILLER: RangeMark = RangeMark::Zeroed;
+
+    ghost FILLER = { range_filler };
+
+    ghost equals = { Prim.search rules };
 
     ghost tells = { Prim.search rules };
 
@@ -27,19 +31,19 @@ impl Mark for RangeMark {
 
     ghost rests = { Prim.search rules };
 
-    fn fill() -> RangeMark {
-        Self::FILLER
-    }
-
     fn moved(self, _k: u64) -> RangeMark {
         self
     }
+}
 
-    fn same(self, other: RangeMark) -> bool {
-        match (self, other) {
-            (RangeMark::Zeroed, RangeMark::Zeroed) => true,
-            (RangeMark::Written, RangeMark::Written) => true,
-            _ => false,
+// The kind of a payload mark.
+impl From<PayloadMark> for RangeMark {
+    ghost from_gives = { λ mark kind. kind ≡ range_of mark };
+
+    fn from(mark: PayloadMark) -> RangeMark {
+        match mark {
+            PayloadMark::Zeroed => RangeMark::Zeroed,
+            PayloadMark::Written(_, _) => RangeMark::Written,
         }
     }
 }

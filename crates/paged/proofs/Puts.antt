@@ -1,13 +1,14 @@
 -- Bytes put into one page, and into a range. Rests on the laws of pages and of filled pages.
-use Rattle.std.proofs.Common.{◌≡◌, ℕ, zero, suc, ◌+◌, ◌-◌, ◌*◌, ◌/◌, ◌%◌, ◌<◌, ◌≤◌, min, Bool, true, false, cond, ◌&&◌, eqb, ◌≢◌, List, [], ◌∷◌, ◌++◌, length, get_or, take, drop, replicate, sym, refl, ap, ◌∙◌, ⊎_elim, add-zero, arith, length-drop, length-take}
+use Rattle.std.proofs.Common.{Option, Some, None, MatchOption, is_some, not, ◌≡◌, ℕ, zero, suc, ◌+◌, ◌-◌, ◌*◌, ◌/◌, ◌%◌, ◌<◌, ◌≤◌, min, Bool, true, false, cond, ◌&&◌, eqb, ◌≢◌, List, [], ◌∷◌, ◌++◌, length, get_or, take, drop, replicate, sym, refl, ap, ◌∙◌, ⊎_elim, add-zero, arith, length-drop, length-take}
 use lib.ListN.{length-replicate}
-use Rattle.std.proofs.lemmas.List.{get_or-take, get_or-drop, ext_get_or, take-take, drop-take, drop-drop, get_or_past}
-use Rattle.std.proofs.lemmas.Bool.{cases_lt, cases_eq, and_left, and_right}
+use Rattle.std.proofs.lemmas.List.{get_or-take, get_or-drop, ext_get_or, get_or_past}
+use Rattle.std.proofs.lemmas.Bool.{cases_lt, cases_eq, and_left, and_right, both_ways, eq-eqb, ne_eqb}
+use Rattle.std.specs.Int.{from_bool}
 use Rattle.store.specs.Images.{overwritten}
 use Rattle.store.proofs.ImageLaws.{length_overwritten, overwritten_after, overwritten_before, overwritten_in}
 use Rattle.paged.specs.Pages.{places, pool_pages, page_at, page_of, blank, all_pages, filled_from, Mapped, Placed, Sound, Kept}
 use Rattle.paged.specs.PageLaws.{length_page, length_all}
-use Rattle.paged.specs.FilledLaws.{blank_all, blank_at, getD_page, page_same, filled_step}
+use Rattle.paged.specs.FilledLaws.{blank_all, blank_at, getD_page, page_same, filled_step, weight_one, weight_none}
 use Rattle.paged.proofs.Steps.{spot, page_spot, at_spot}
 
 -- page i is the page of its map value
@@ -42,26 +43,6 @@ pub blank_over : (page : List ℕ) (from : ℕ) (bytes : List ℕ) → blank (ov
 blank_over page from bytes =
     blank_append (take from page) (bytes ++ drop (from + length bytes) page)
     ∙ ap (λ t. blank (take from page) && t) (blank_append bytes (drop (from + length bytes) page))
-
-cut : (pool : List ℕ) (m : ℕ) → 0 < m → page_at pool m ≡ take 256 (drop (256 * (m - 1)) pool)
-cut pool zero h = absurd (omega arith)
-cut pool (suc k) h = let e : suc k - 1 ≡ k = omega arith in ap (λ n. take 256 (drop (256 * n) pool)) (sym e)
-
--- a pool page, cut as the code cuts it, around some bytes
-module _ (pool : List ℕ) (m from count : ℕ) (inside : from + count ≤ 256) (some : 0 < m) where
-  pub front_part : take (256 * (m - 1) + from - 256 * (m - 1)) (drop (256 * (m - 1)) pool) ≡ take from (page_at pool m)
-  front_part =
-      let e : 256 * (m - 1) + from - 256 * (m - 1) ≡ from = omega arith in
-      ap (λ n. take n (drop (256 * (m - 1)) pool)) e ∙ sym (take-take from 256 (drop (256 * (m - 1)) pool) (omega arith)) ∙ ap (take from) (sym (cut pool m some))
-
-  pub back_part : take (256 * (m - 1) + 256 - (256 * (m - 1) + from + count)) (drop (256 * (m - 1) + from + count) pool) ≡ drop (from + count) (page_at pool m)
-  back_part =
-      let e : 256 * (m - 1) + 256 - (256 * (m - 1) + from + count) ≡ 256 - (from + count) = omega arith in
-      let f : from + count + (256 - (from + count)) ≡ 256 = omega arith in
-      let whole : List ℕ = drop (256 * (m - 1)) pool in
-      ap (λ n. take n (drop (256 * (m - 1) + from + count) pool)) e
-      ∙ ap (take (256 - (from + count))) (sym (drop-drop (from + count) (256 * (m - 1)) pool ∙ ap (λ n. drop n pool) (omega arith)))
-      ∙ sym (drop-take (from + count) (256 - (from + count)) whole) ∙ ap (λ n. drop (from + count) (take n whole)) f ∙ ap (drop (from + count)) (sym (cut pool m some))
 
 -- blank bytes in a blank page
 pub blank_in_blank : (page : List ℕ) (from : ℕ) (bytes : List ℕ) → blank page ≡ true → blank bytes ≡ true → blank (overwritten page from bytes) ≡ true
@@ -210,3 +191,17 @@ pub kept_page : (b : List ℕ) (i from : ℕ) (bytes : List ℕ) → from + leng
 kept_page b i from bytes inside whole was empty =
     page_settles b (overwritten b (256 * i + from) bytes) i (sym (length_overwritten b (256 * i + from) bytes (omega arith)))
     (λ p ne. sym (over_outside b i from bytes inside whole p ne)) was (ap blank (page_over b i from bytes inside whole) ∙ empty)
+
+-- 1 for a page that is not blank, and 0 for a blank one
+pub weight_filled : (b : Bool) → from_bool (not b) ≡ cond b 0 1
+weight_filled true = refl
+weight_filled false = refl
+
+-- 1 for a place with a pool page, and 0 for one without
+pub weight_place : (page : Option ℕ) (v : ℕ) → MatchOption page (v ≡ 0) (λ k. v ≡ k + 1) → from_bool (is_some page) ≡ cond (eqb v 0) 0 1
+weight_place None v e = sym (weight_none (eqb v 0) (eq-eqb v 0 e))
+weight_place (Some k) v e = sym (weight_one (eqb v 0) (ne_eqb v 0 (λ z. omega arith)))
+
+pub no_page : (page : Option ℕ) (v : ℕ) → MatchOption page (v ≡ 0) (λ k. v ≡ k + 1) → is_some page ≡ false → v ≡ 0
+no_page None v e h = e
+no_page (Some k) v e h = absurd (both_ways true h refl)

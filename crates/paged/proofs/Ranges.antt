@@ -5,22 +5,36 @@ use Rattle.std.proofs.lemmas.List.{same_lists, places as places-law, get_or-take
 use Rattle.std.proofs.lemmas.Bool.{cases_lt, cases_eq, both_ways}
 use Rattle.store.specs.Images.{overwritten}
 use Rattle.store.proofs.ImageLaws.{length_overwritten, overwritten_after, overwritten_before, overwritten_in, overwritten_parts}
-use Rattle.paged.specs.Pages.{places, page_of, blank, all_pages, filled_from, Ready, Sound}
+use Rattle.paged.specs.Pages.{places, reach, page_of, blank, all_pages, filled_from, Ready, Sound}
 use Rattle.paged.specs.PageLaws.{length_all}
 use Rattle.paged.specs.FilledLaws.{blank_at, page_same, filled_step, filled_mono, filled_ready}
 use Rattle.paged.proofs.Puts.{over_outside, page_over}
 
-pub over_more : (b : List ℕ) (o d n : ℕ) → o + d + n ≤ length b → overwritten (overwritten b o (replicate d 0)) (o + d) (replicate n 0) ≡ overwritten b o (replicate (d + n) 0)
-over_more b o d n fits =
+-- the part of a range in page i, where the range meets it: bytes d to m of the range lie there
+pub record PartOf (o count i d m from : ℕ) : Type 0 where
+  pub order : d ≤ m
+  pub most : m ≤ count
+  pub place : 256 * i + from ≡ o + d
+  pub low : o + m ≤ 256 * i + 256
+  pub start : 0 < d → from ≡ 0
+  pub end : m < count → o + m ≡ 256 * i + 256
+
+pub part_of : (o count i d m from : ℕ) → o / 256 ≤ i → 256 * i < o + count → d ≡ reach o count i → m ≡ reach o count (i + 1) → 256 * i + from ≡ o + d → PartOf o count i d m from
+part_of o count i d m from h k is-d is-m place = record { order = omega arith; most = omega arith; place = place; low = omega arith; start = λ some. omega arith; end = λ more. omega arith }
+
+pub over_more : (b : List ℕ) (o d m : ℕ) → d ≤ m → o + m ≤ length b → overwritten (overwritten b o (replicate d 0)) (o + d) (replicate (m - d) 0) ≡ overwritten b o (replicate m 0)
+over_more b o d m order fits =
     let ld = length-replicate {A = ℕ} d 0 in
-    let ln = length-replicate {A = ℕ} n 0 in
-    ap (λ k. overwritten (overwritten b o (replicate d 0)) (o + k) (replicate n 0)) (sym ld) ∙ overwritten_parts b o (replicate d 0) (replicate n 0) (omega arith) ∙ ap (overwritten b o) (replicate-append-replicate d n 0)
+    let ln = length-replicate {A = ℕ} (m - d) 0 in
+    let all : d + (m - d) ≡ m = omega arith in
+    ap (λ k. overwritten (overwritten b o (replicate d 0)) (o + k) (replicate (m - d) 0)) (sym ld) ∙ overwritten_parts b o (replicate d 0) (replicate (m - d) 0) (omega arith)
+    ∙ ap (overwritten b o) (replicate-append-replicate d (m - d) 0 ∙ ap (λ k. replicate k 0) all)
 
-pub zeros_part : (n : ℕ) → n ≤ 256 → take (n - 0) (replicate {A = ℕ} 256 0) ≡ replicate n 0
-zeros_part n h = let e : n - 0 ≡ n = omega arith in ap (λ k. take k (replicate {A = ℕ} 256 0)) e ∙ take-replicate n 256 0 h
+pub zeros_part : (n : ℕ) → n ≤ 256 → take n (replicate {A = ℕ} 256 0) ≡ replicate n 0
+zeros_part n h = take-replicate n 256 0 h
 
-pub zeros_blank : (n : ℕ) → n ≤ 256 → blank (take (n - 0) (replicate {A = ℕ} 256 0)) ≡ true
-zeros_blank n h = blank_cut_zeros 256 (n - 0)
+pub zeros_blank : (n : ℕ) → blank (take n (replicate {A = ℕ} 256 0)) ≡ true
+zeros_blank n = blank_cut_zeros 256 n
   where
     blank_cut_zeros : (m k : ℕ) → blank (take k (replicate m 0)) ≡ true
     blank_cut_zeros m zero = refl
@@ -28,24 +42,24 @@ zeros_blank n h = blank_cut_zeros 256 (n - 0)
     blank_cut_zeros (suc m) (suc k) = blank_cut_zeros m k
 
 -- the next part of some bytes, after the first ones
-module _ (b : List ℕ) (o : ℕ) (bytes : List ℕ) (d n : ℕ) (most : d + n ≤ length bytes) (fits : o + length bytes ≤ length b) where
+module _ (b : List ℕ) (o : ℕ) (bytes : List ℕ) (d m : ℕ) (order : d ≤ m) (most : m ≤ length bytes) (fits : o + length bytes ≤ length b) where
   la : length (take d bytes) ≡ d
   la = simp length-take (omega arith)
 
-  pub length_chunk : length (take (d + n - d) (drop d bytes)) ≡ n
+  pub length_chunk : length (take (m - d) (drop d bytes)) ≡ m - d
   length_chunk = simp (length-take, length-drop) (omega arith)
 
-  pub over_chunk : overwritten (overwritten b o (take d bytes)) (o + d) (take (d + n - d) (drop d bytes)) ≡ overwritten b o (take (d + n) bytes)
+  pub over_chunk : overwritten (overwritten b o (take d bytes)) (o + d) (take (m - d) (drop d bytes)) ≡ overwritten b o (take m bytes)
   over_chunk =
       let first : List ℕ = take d bytes in
-      let chunk : List ℕ = take (d + n - d) (drop d bytes) in
+      let chunk : List ℕ = take (m - d) (drop d bytes) in
       let l1 : length first ≡ d = la in
-      let l2 : length chunk ≡ n = length_chunk in
-      let e : d + (d + n - d) ≡ d + n = omega arith in
-      let back : chunk ≡ drop d (take (d + n) bytes) = sym (drop-take d (d + n - d) bytes) ∙ ap (λ m. drop d (take m bytes)) e in
-      let front : first ≡ take d (take (d + n) bytes) = sym (take-take d (d + n) bytes (omega arith)) in
-      ap (λ m. overwritten (overwritten b o first) (o + m) chunk) (sym l1) ∙ overwritten_parts b o first chunk (omega arith)
-      ∙ ap (overwritten b o) ((λ i. front i ++ back i) ∙ take-append-drop d (take (d + n) bytes))
+      let l2 : length chunk ≡ m - d = length_chunk in
+      let e : d + (m - d) ≡ m = omega arith in
+      let back : chunk ≡ drop d (take m bytes) = sym (drop-take d (m - d) bytes) ∙ ap (λ n. drop d (take n bytes)) e in
+      let front : first ≡ take d (take m bytes) = sym (take-take d m bytes order) in
+      ap (λ n. overwritten (overwritten b o first) (o + n) chunk) (sym l1) ∙ overwritten_parts b o first chunk (omega arith)
+      ∙ ap (overwritten b o) ((λ i. front i ++ back i) ∙ take-append-drop d (take m bytes))
 
 -- zeros need no room
 pub zeros_fill_less : (n : ℕ) (b : List ℕ) (o : ℕ) (zs : List ℕ) → blank zs ≡ true → o + length zs ≤ length b → length b ≡ 256 * n → filled_from n (overwritten b o zs) ≤ filled_from n b
@@ -122,12 +136,16 @@ overwritten_inside : (b : List ℕ) (o : ℕ) (bytes : List ℕ) (q : ℕ) (chun
 overwritten_inside b o bytes q chunk h k fits = same_lists _ _ (search (rules, places-law)) (λ i d l. grind (arith, places-law))
 
 -- the part of some bytes that goes to page i, in their range
-module _ (b : List ℕ) (o : ℕ) (bytes : List ℕ) (d n i from : ℕ) (most : d + n ≤ length bytes) (fits : o + length bytes ≤ length b) (place : 256 * i + from ≡ o + d) (low : from + n ≤ 256) (whole : 256 * i + 256 ≤ length b) (start : 0 < d → from ≡ 0) (end : d + n < length bytes → from + n ≡ 256) where
+module _ (b : List ℕ) (o : ℕ) (bytes : List ℕ) (i d m from : ℕ) (part : PartOf o (length bytes) i d m from) (fits : o + length bytes ≤ length b) (whole : 256 * i + 256 ≤ length b) where
   -- it makes the page what all the bytes make it
-  pub page_result : page_of (overwritten b o bytes) i ≡ overwritten (page_of b i) from (take (d + n - d) (drop d bytes))
+  pub page_result : page_of (overwritten b o bytes) i ≡ overwritten (page_of b i) from (take (m - d) (drop d bytes))
   page_result =
-      let chunk : List ℕ = take (d + n - d) (drop d bytes) in
-      let lc : length chunk ≡ n = length_chunk b o bytes d n most fits in
+      let chunk : List ℕ = take (m - d) (drop d bytes) in
+      let lc : length chunk ≡ m - d = length_chunk b o bytes d m part.order part.most fits in
+      let place = part.place in
+      let order = part.order in
+      let most = part.most in
+      let low = part.low in
       let inside : from + length chunk ≤ 256 = omega arith in
       let room : 256 * i + from + length chunk ≤ length b = omega arith in
       page_same (overwritten b o bytes) (overwritten b (256 * i + from) chunk) i (length_overwritten b o bytes fits ∙ sym (length_overwritten b (256 * i + from) chunk room))
@@ -136,28 +154,32 @@ module _ (b : List ℕ) (o : ℕ) (bytes : List ℕ) (d n i from : ℕ) (most : 
       (λ before. overwritten_before b o bytes fits p before ∙ sym (overwritten_before b (256 * i + from) chunk room p (omega arith)))
       (λ on.
       ⊎_elim
-      (λ early. let zero-from : from ≡ 0 = start (omega arith) in absurd (omega arith))
+      (λ early. let zero-from : from ≡ 0 = part.start (omega arith) in absurd (omega arith))
       (λ past.
       ⊎_elim
       (λ within.
       let e : p - o ≡ d + (p - (256 * i + from)) = omega arith in
       overwritten_in b o bytes fits p on (omega arith) ∙ ap (λ k. get_or bytes k 0) e
-      ∙ sym (overwritten_in b (256 * i + from) chunk room p (omega arith) (omega arith) ∙ get_or-take (d + n - d) (drop d bytes) (p - (256 * i + from)) 0 (omega arith) ∙ get_or-drop d bytes (p - (256 * i + from)) 0))
+      ∙ sym (overwritten_in b (256 * i + from) chunk room p (omega arith) (omega arith) ∙ get_or-take (m - d) (drop d bytes) (p - (256 * i + from)) 0 (omega arith) ∙ get_or-drop d bytes (p - (256 * i + from)) 0))
       (λ after.
       ⊎_elim
-      (λ more. let ends : from + n ≡ 256 = end more in absurd (omega arith))
+      (λ more. let ends : o + m ≡ 256 * i + 256 = part.end more in absurd (omega arith))
       (λ all. overwritten_after b o bytes fits p (omega arith) ∙ sym (overwritten_after b (256 * i + from) chunk room p (omega arith)))
-      (cases_lt (d + n) (length bytes)))
-      (cases_lt p (o + d + n)))
+      (cases_lt m (length bytes)))
+      (cases_lt p (o + m)))
       (cases_lt p (o + d)))
       (cases_lt p o))
       ∙ page_over b i from chunk inside whole
 
   -- with the page zeroed if it is to be blank, and otherwise as it is
-  pub ready_more : (t : Bool) (b' : List ℕ) → blank (overwritten (page_of b i) from (take (d + n - d) (drop d bytes))) ≡ t → b' ≡ cond t (overwritten b (256 * i + from) (take (d + n - d) (drop d bytes))) b → ReadyUpTo o bytes d b → (overwritten b' o bytes ≡ overwritten b o bytes) × ReadyUpTo o bytes (d + n) b'
+  pub ready_more : (t : Bool) (b' : List ℕ) → blank (overwritten (page_of b i) from (take (m - d) (drop d bytes))) ≡ t → b' ≡ cond t (overwritten b (256 * i + from) (take (m - d) (drop d bytes))) b → ReadyUpTo o bytes d b → (overwritten b' o bytes ≡ overwritten b o bytes) × ReadyUpTo o bytes m b'
   ready_more true b' empty is ready =
-      let chunk : List ℕ = take (d + n - d) (drop d bytes) in
-      let lc : length chunk ≡ n = length_chunk b o bytes d n most fits in
+      let chunk : List ℕ = take (m - d) (drop d bytes) in
+      let lc : length chunk ≡ m - d = length_chunk b o bytes d m part.order part.most fits in
+      let place = part.place in
+      let order = part.order in
+      let most = part.most in
+      let low = part.low in
       let inside : from + length chunk ≤ 256 = omega arith in
       let new : List ℕ = overwritten b (256 * i + from) chunk in
       let same = ap (λ x. overwritten x o bytes) is ∙ overwritten_inside b o bytes (256 * i + from) chunk (omega arith) (omega arith) fits in (
@@ -165,41 +187,47 @@ module _ (b : List ℕ) (o : ℕ) (bytes : List ℕ) (d n i from : ℕ) (most : 
         (λ j some meets below h.
             ap (λ x. blank (page_of x j)) is
             ∙ ⊎_elim
-            (λ (e : j ≡ i). ap (λ m. blank (page_of new m)) e ∙ ap blank (page_over b i from chunk inside whole) ∙ empty)
+            (λ (e : j ≡ i). ap (λ n. blank (page_of new n)) e ∙ ap blank (page_over b i from chunk inside whole) ∙ empty)
             (λ (ne : j ≡ i → ⊥).
             ap blank (page_same new b j (length_overwritten b (256 * i + from) chunk (omega arith)) (λ p q. over_outside b i from chunk inside whole p (λ e. ne (sym q ∙ e))))
             ∙ ready j (omega arith) meets (omega arith) (sym (ap (λ x. blank (page_of x j)) same) ∙ h))
             (cases_eq j i)),
       )
   ready_more false b' full is ready =
-      let same = ap (λ x. overwritten x o bytes) is in (
+      let same = ap (λ x. overwritten x o bytes) is in
+      let place = part.place in
+      let low = part.low in (
         same,
         (λ j some meets below h.
             let result = sym (ap (λ x. blank (page_of x j)) same) ∙ h in
             ap (λ x. blank (page_of x j)) is
             ∙ ⊎_elim
-            (λ (e : j ≡ i). absurd (both_ways _ (ap blank page_result ∙ full) (sym (ap (λ m. blank (page_of (overwritten b o bytes) m)) e) ∙ result)))
+            (λ (e : j ≡ i). absurd (both_ways _ (ap blank page_result ∙ full) (sym (ap (λ n. blank (page_of (overwritten b o bytes) n)) e) ∙ result)))
             (λ (ne : j ≡ i → ⊥). ready j (omega arith) meets (omega arith) result)
             (cases_eq j i)),
       )
 
 -- how the next part changes the count: page i, where it goes, is still as it was
-pub chunk_count : (table pool spare : List ℕ) (used o : ℕ) (bytes : List ℕ) (d n i from : ℕ) → Sound table pool spare used → d + n ≤ length bytes → o + length bytes ≤ 256 * places table → 256 * i + from ≡ o + d → from + n ≤ 256 → i < places table → (0 < d → from ≡ 0)
-    → filled_from (places table) (overwritten (all_pages table pool) o (take (d + n) bytes)) + cond (eqb (get_or table i 0) 0) 0 1
-    ≡ filled_from (places table) (overwritten (all_pages table pool) o (take d bytes)) + cond (blank (overwritten (page_of (all_pages table pool) i) from (take (d + n - d) (drop d bytes)))) 0 1
-chunk_count table pool spare used o bytes d n i from sound most fits place low here aligned =
+pub chunk_count : (table pool spare : List ℕ) (used o : ℕ) (bytes : List ℕ) (i d m from : ℕ) → Sound table pool spare used → PartOf o (length bytes) i d m from → o + length bytes ≤ 256 * places table → i < places table
+    → filled_from (places table) (overwritten (all_pages table pool) o (take m bytes)) + cond (eqb (get_or table i 0) 0) 0 1
+    ≡ filled_from (places table) (overwritten (all_pages table pool) o (take d bytes)) + cond (blank (overwritten (page_of (all_pages table pool) i) from (take (m - d) (drop d bytes)))) 0 1
+chunk_count table pool spare used o bytes i d m from sound part fits here =
     let all : List ℕ = all_pages table pool in
     let long : length all ≡ 256 * places table = length_all table pool sound.placed.mapped in
+    let place = part.place in
+    let order = part.order in
+    let most = part.most in
+    let low = part.low in
     let first : List ℕ = take d bytes in
-    let chunk : List ℕ = take (d + n - d) (drop d bytes) in
+    let chunk : List ℕ = take (m - d) (drop d bytes) in
     let l1 : length first ≡ d = simp length-take (omega arith) in
-    let l2 : length chunk ≡ n = length_chunk all o bytes d n most (omega arith) in
+    let l2 : length chunk ≡ m - d = length_chunk all o bytes d m order most (omega arith) in
     let was : List ℕ = overwritten all o first in
     let kept : length was ≡ length all = length_overwritten all o first (omega arith) in
     let whole : 256 * i + 256 ≤ length was = omega arith in
     let inside : from + length chunk ≤ 256 = omega arith in
     let new : List ℕ = overwritten was (256 * i + from) chunk in
-    let is-new : overwritten all o (take (d + n) bytes) ≡ new = sym (over_chunk all o bytes d n most (omega arith)) ∙ ap (λ q. overwritten was q chunk) (sym place) in
+    let is-new : overwritten all o (take m bytes) ≡ new = sym (over_chunk all o bytes d m order most (omega arith)) ∙ ap (λ q. overwritten was q chunk) (sym place) in
     let same : page_of was i ≡ page_of all i = page_same was all i kept
     (λ p q.
     ⊎_elim
@@ -207,7 +235,7 @@ chunk_count table pool spare used o bytes d n i from sound most fits place low h
     (λ on.
     ⊎_elim
     (λ (none : d ≡ 0). overwritten_after all o first (omega arith) p (omega arith))
-    (λ (some : d ≡ 0 → ⊥). let zero-from : from ≡ 0 = aligned (omega arith) in overwritten_after all o first (omega arith) p (omega arith))
+    (λ (some : d ≡ 0 → ⊥). let zero-from : from ≡ 0 = part.start (omega arith) in overwritten_after all o first (omega arith) p (omega arith))
     (cases_eq d 0))
     (cases_lt p o)) in
     let page : page_of new i ≡ overwritten (page_of all i) from chunk = page_over was i from chunk inside whole ∙ ap (λ b. overwritten b from chunk) same in

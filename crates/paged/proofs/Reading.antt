@@ -43,13 +43,13 @@ module _ (table pool : List ℕ) (i from count : ℕ) (mapped : Mapped table poo
       ∙ sym (at r low ∙ ap (λ v. spot pool v (from + r)) value))
 
 -- one part more in the buffer
-pub read_more : (all buf : List ℕ) (offset d n : ℕ) → d + n ≤ length buf → offset + d + n ≤ length all → ((k : ℕ) → k < d → get_or buf k 0 ≡ get_or all (offset + k) 0) → (k : ℕ) → k < d + n → get_or (overwritten buf d (part all (offset + d) n)) k 0 ≡ get_or all (offset + k) 0
-read_more all buf offset d n most fits first k l =
-    let new : List ℕ = part all (offset + d) n in
-    let ln : length new ≡ n = simp (length-take, length-drop) (omega arith) in
+pub read_more : (all buf : List ℕ) (offset d m : ℕ) → d ≤ m → m ≤ length buf → offset + m ≤ length all → ((k : ℕ) → k < d → get_or buf k 0 ≡ get_or all (offset + k) 0) → (k : ℕ) → k < m → get_or (overwritten buf d (part all (offset + d) (m - d))) k 0 ≡ get_or all (offset + k) 0
+read_more all buf offset d m order most fits first k l =
+    let new : List ℕ = part all (offset + d) (m - d) in
+    let ln : length new ≡ m - d = simp (length-take, length-drop) (omega arith) in
     ⊎_elim
     (λ low. overwritten_before buf d new (omega arith) k low ∙ first k low)
     (λ high.
     let e : offset + d + (k - d) ≡ offset + k = omega arith in
-    overwritten_in buf d new (omega arith) k high (omega arith) ∙ get_or-take n (drop (offset + d) all) (k - d) 0 (omega arith) ∙ get_or-drop (offset + d) all (k - d) 0 ∙ ap (λ m. get_or all m 0) e)
+    overwritten_in buf d new (omega arith) k high (omega arith) ∙ get_or-take (m - d) (drop (offset + d) all) (k - d) 0 (omega arith) ∙ get_or-drop (offset + d) all (k - d) 0 ∙ ap (λ n. get_or all n 0) e)
     (cases_lt k d)

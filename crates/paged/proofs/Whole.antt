@@ -11,37 +11,22 @@ use Rattle.paged.specs.FilledLaws.{filled_cut, filled_mono, page_blank}
 use Rattle.paged.proofs.Puts.{and_true}
 use Rattle.paged.specs.declared.image.PagedImage.{PagedImage}
 
--- an image's pages are sound, and have the whole image
-pub fits_of : (s : PagedImage) → s.size ≤ 256 * places s.pages.map.now
+-- an image's pages have the whole image
+pub fits_of : (s : PagedImage) → s.size ≤ 256 * places s.pages.paging.map.now
 fits_of s =
-    let all : List ℕ = all_pages s.pages.map.now s.pages.pool.now in
-    omega (arith, s.long, length-take s.size all, length_all s.pages.map.now s.pages.pool.now s.mapped)
+    let all : List ℕ = all_pages s.pages.paging.map.now s.pages.paging.pool.now in
+    omega (arith, s.long, length-take s.size all, length_all s.pages.paging.map.now s.pages.paging.pool.now s.pages.sound.placed.mapped)
 
-pub whole_of : (s : PagedImage) → s.size ≤ length (all_pages s.pages.map.now s.pages.pool.now)
-whole_of s = omega (arith, fits_of s, length_all s.pages.map.now s.pages.pool.now s.mapped)
-
-pub sound_of : (s : PagedImage) → Sound s.pages.map.now s.pages.pool.now s.pages.spare s.pages.used
-sound_of s = record {
-  placed = record { mapped = s.mapped; apart = s.apart; spare_in = s.sparein; spare_apart = s.spareapart; spare_free = s.sparefree };
-  filled = s.filled;
-  counted = s.counted ∙ filled_cut (places s.pages.map.now) s.size (all_pages s.pages.map.now s.pages.pool.now) s.ended (fits_of s);
-  room = s.room;
-}
+pub whole_of : (s : PagedImage) → s.size ≤ length (all_pages s.pages.paging.map.now s.pages.paging.pool.now)
+whole_of s = omega (arith, fits_of s, length_all s.pages.paging.map.now s.pages.paging.pool.now s.pages.sound.placed.mapped)
 
 -- sound pages with zeros past a size
-pub valid_of : (table pool spare : List ℕ) (used size : ℕ) → Sound table pool spare used → size ≤ 256 * places table → Ended table pool size → Valid table pool spare used size
+pub valid_of : (table pool spare : List ℕ) (used size : ℕ) → Sound table pool spare used → size ≤ 256 * places table → Ended table pool size → Valid table pool used size
 valid_of table pool spare used size sound fits ended =
     let all : List ℕ = all_pages table pool in
     record {
       long = length_image table pool size sound.placed.mapped fits;
-      mapped = sound.placed.mapped;
-      apart = sound.placed.apart;
-      spare_in = sound.placed.spare_in;
-      spare_apart = sound.placed.spare_apart;
-      spare_free = sound.placed.spare_free;
-      filled = sound.filled;
       counted = sound.counted ∙ sym (filled_cut (places table) size all ended fits);
-      room = sound.room;
       ended = ended;
       unmapped = λ i l h. eqb-true (get_or table i 0) 0 (sym (sound.filled i l) ∙ page_blank all i (λ r. ended (256 * i + r) (omega arith)));
     }

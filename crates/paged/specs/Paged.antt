@@ -9,29 +9,29 @@ use Rattle.paged.specs.declared.image.PagedImage.{PagedImage}
 
 -- its bytes now
 abbrev pub paged_image : PagedImage → List ℕ
-paged_image s = take s.size (all_pages s.pages.map.now s.pages.pool.now)
+paged_image s = take s.size (all_pages s.pages.paging.map.now s.pages.paging.pool.now)
 
 -- the images that it can hold
 abbrev pub paged_holds : PagedImage → Images
-paged_holds s = paged_set s.pages.map.now s.pages.pool.now
+paged_holds s = paged_set s.pages.paging.map.now s.pages.paging.pool.now
 
 -- past the size, map places and page bytes hold 0
 pub record PastZero (s : PagedImage) : Type 0 where
-  pub map_places : Unmapped s.pages.map.now s.size
-  pub page_bytes : Ended s.pages.map.now s.pages.pool.now s.size
+  pub map_places : Unmapped s.pages.paging.map.now s.size
+  pub page_bytes : Ended s.pages.paging.map.now s.pages.paging.pool.now s.size
 
 -- what no call touches is as it was before the call
 abbrev pub Untouched : PagedImage → PagedImage → Type 0
-Untouched before s = Kept before.pages.map.now before.pages.pool.now s.pages.map.now s.pages.pool.now
+Untouched before s = Kept before.pages.paging.map.now before.pages.paging.pool.now s.pages.paging.map.now s.pages.paging.pool.now
 
 pub paged_laws : Laws paged_image paged_holds
 unfolding paged_set
 paged_laws = record {
   present = λ s.
-      let table = s.pages.map.now in
-      let pool = s.pages.pool.now in
+      let table = s.pages.paging.map.now in
+      let pool = s.pages.paging.pool.now in
       let short = length-take s.size (all_pages table pool) in
-      and_from _ _ (le-leb (length (paged_image s)) (256 * places table) (omega (arith, length_all table pool s.mapped))) (le-leb (filled_pages (paged_image s)) (pool_pages pool) (omega (arith, s.counted, s.room)));
+      and_from _ _ (le-leb (length (paged_image s)) (256 * places table) (omega (arith, length_all table pool s.pages.sound.placed.mapped))) (le-leb (filled_pages (paged_image s)) (pool_pages pool) (omega (arith, s.counted, s.pages.sound.room)));
   limited = λ s b h.
-      omega (arith, leb-true (length b) (256 * places s.pages.map.now) (and_parts (nat_le (length b) (256 * places s.pages.map.now)) (nat_le (filled_pages b) (pool_pages s.pages.pool.now)) h).0);
+      omega (arith, leb-true (length b) (256 * places s.pages.paging.map.now) (and_parts (nat_le (length b) (256 * places s.pages.paging.map.now)) (nat_le (filled_pages b) (pool_pages s.pages.paging.pool.now)) h).0);
 }

@@ -1,5 +1,5 @@
 -- Pages of 256 bytes in a pool, and a map from the pages of an image to them. Rests on the contract of a store.
-use Rattle.std.specs.Prelude.{◌≡◌, ℕ, zero, suc, ◌+◌, ◌*◌, ◌/◌, ◌<◌, ◌≤◌, min, Bool, true, cond, ◌&&◌, List, [], ◌∷◌, length, take, drop, replicate, ◌==◌, nat_le, slice_index}
+use Rattle.std.specs.Prelude.{◌≡◌, ℕ, zero, suc, ◌+◌, ◌-◌, ◌*◌, ◌/◌, ◌<◌, ◌≤◌, min, Bool, true, cond, ◌&&◌, List, [], ◌∷◌, length, take, drop, replicate, ◌==◌, nat_le, slice_index}
 use Rattle.std.specs.List.{flat_map}
 use Rattle.store.specs.Images.{part}
 use Rattle.store.specs.Stores.{Images}
@@ -23,6 +23,10 @@ all_pages table pool = flat_map (page_at pool) (take 65536 table)
 -- page i of some bytes
 abbrev pub page_of : List ℕ → ℕ → List ℕ
 page_of bytes i = part bytes (256 * i) 256
+
+-- how many bytes of a range lie before page i
+abbrev pub reach : ℕ → ℕ → ℕ → ℕ
+reach offset count i = min (256 * i - offset) count
 
 -- only zeros
 abbrev pub blank : List ℕ → Bool
@@ -97,17 +101,10 @@ pub record Sound (table pool spare : List ℕ) (used : ℕ) : Type 0 where
   pub counted : used ≡ filled_from (places table) (all_pages table pool)
   pub room : used ≤ pool_pages pool
 
--- what holds of the pages of an image of a size
-pub record Valid (table pool spare : List ℕ) (used size : ℕ) : Type 0 where
+-- what an image of a size has beside sound pages
+pub record Valid (table pool : List ℕ) (used size : ℕ) : Type 0 where
   pub long : length (take size (all_pages table pool)) ≡ size
-  pub mapped : Mapped table pool
-  pub apart : Apart table
-  pub spare_in : SpareIn pool spare used
-  pub spare_apart : SpareApart pool spare used
-  pub spare_free : SpareFree table pool spare used
-  pub filled : Filled table pool
   pub counted : used ≡ filled_pages (take size (all_pages table pool))
-  pub room : used ≤ pool_pages pool
   pub ended : Ended table pool size
   pub unmapped : Unmapped table size
 

@@ -1,18 +1,17 @@
 -- The first bytes that a call is handed, and the window of a buffer that it is lent. Assumes nothing.
-use Rattle.std.proofs.Common.{◌≡◌, ℕ, ◌+◌, ◌-◌, min, List, ◌++◌, length, take, drop, sym, ap, ◌∙◌, ap₂, arith, length-drop}
-use native.Mathlib.Decide.{dec_le}
+use Rattle.std.proofs.Common.{◌≡◌, ℕ, ◌+◌, ◌-◌, min, List, ◌++◌, length, take, drop, ap, ◌∙◌, ap₂, arith, length-drop}
 use borrow.Rule.Slice.PartMut.{put_mid, Post-is}
-use Rattle.std.proofs.lemmas.List.{take_all, drop_all}
+use Rattle.std.proofs.lemmas.List.{take_min, drop_min}
 use Rattle.replay.specs.declared.requests.Window.{Window}
 use Rattle.replay.specs.Replays.{window, with_window}
 
 -- a number cut off at a list's length cuts the list where the number does
 module _ (n k : ℕ) (xs : List ℕ) (e : k ≡ min n (length xs)) where
   take_cut : take k xs ≡ take n xs
-  take_cut = elim (dec_le n (length xs)) [ yes h ↦ ap (λ m. take m xs) (omega arith) | no h ↦ take_all k xs (omega arith) ∙ sym (take_all n xs (omega arith)) ]
+  take_cut = ap (λ m. take m xs) e ∙ take_min n xs
 
   drop_cut : drop k xs ≡ drop n xs
-  drop_cut = elim (dec_le n (length xs)) [ yes h ↦ ap (λ m. drop m xs) (omega arith) | no h ↦ drop_all k xs (omega arith) ∙ sym (drop_all n xs (omega arith)) ]
+  drop_cut = ap (λ m. drop m xs) e ∙ drop_min n xs
 
 module _ (handed k : ℕ) (bytes : List ℕ) (e : k ≡ min handed (length bytes)) where
   pub handed_is : take (k - 0) bytes ≡ take handed bytes

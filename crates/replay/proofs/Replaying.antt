@@ -5,8 +5,6 @@ use Rattle.store.specs.Stores.{Images}
 use Rattle.stream.proofs.Back.{passes, ok_same}
 use Rattle.table.specs.Tables.{Table, empty_table}
 use Rattle.replay.specs.declared.requests.Request.{Request}
-use Rattle.shelf.specs.declared.shelf.Shelf.{Shelf}
-use Rattle.shelf.specs.Shelves.{shelf_table}
 use Rattle.shelf.specs.Outcomes.{make_answer}
 use Rattle.shelf.specs.Series.{opened, events}
 use Rattle.shelf.specs.Promise.{ComesBack}
@@ -17,10 +15,10 @@ use Rattle.shelf.proofs.Promised.{promise}
 made_empty : (name : List ℕ) (t : Table) → Ok t ≡ make_answer name → t ≡ empty_table name
 made_empty name t e = sym (ok_same (empty_table name) t (passes _ _ _ t (sym e)).1)
 
-module _ (holds : Images) (name bytes image buffer : List ℕ) (rs : List Request) (s : Shelf) (s' : Scene) (answers answers' : List (Result ℕ Fault)) where
-  pub replays : Ok (shelf_table s) ≡ make_answer name → Played holds (scene s bytes image buffer) (take (length answers) rs) s' answers answers' → Replays holds name bytes image buffer rs s' answers answers'
+module _ (holds : Images) (name bytes image buffer : List ℕ) (rs : List Request) (t : Table) (s' : Scene) (answers answers' : List (Result ℕ Fault)) where
+  pub replays : Ok t ≡ make_answer name → Played holds (scene t bytes image buffer) (take (length answers) rs) s' answers answers' → Replays holds name bytes image buffer rs s' answers answers'
   replays e h =
-      let empty = made_empty name (shelf_table s) e in
+      let empty = made_empty name t e in
       let all = take (length answers) rs in
       let played = subst (λ t. Played holds (record { world = record { table = t; bytes = bytes; image = image }; buffer = buffer }) all s' answers answers') empty h in
       let calls = calls_made holds (record { world = opened name bytes image; buffer = buffer }) all in

@@ -3,12 +3,10 @@
 use Rattle.std.specs.Prelude.{◌≡◌, ℕ, ◌+◌, List, [], ◌∷◌, ◌++◌, map, length, take, drop, Ok, Err, Result}
 use Rattle.fault.specs.declared.kinds.Fault.{Fault}
 use Rattle.store.specs.Stores.{Images}
-use Rattle.table.specs.Tables.{empty_table}
+use Rattle.table.specs.Tables.{Table, empty_table}
 use Rattle.replay.specs.declared.requests.Request.{Request}
 use Rattle.replay.specs.declared.requests.Request.TheVariants.{Put, Join, Settle, List as Show}
 use Rattle.replay.specs.declared.requests.Window.{Window}
-use Rattle.shelf.specs.declared.shelf.Shelf.{Shelf}
-use Rattle.shelf.specs.Shelves.{shelf_table}
 use Rattle.shelf.specs.Outcomes.{make_answer}
 use Rattle.shelf.specs.Calls.{Call, put, join, settle, list}
 use Rattle.shelf.specs.Series.{World, opened, Event, event, after, events, last}
@@ -39,8 +37,8 @@ pub record Scene : Type 0 where
   pub world : World
   pub buffer : List ℕ
 
-abbrev pub scene : Shelf → List ℕ → List ℕ → List ℕ → Scene
-scene s bytes image buffer = record { world = record { table = shelf_table s; bytes = bytes; image = image }; buffer = buffer }
+abbrev pub scene : Table → List ℕ → List ℕ → List ℕ → Scene
+scene t bytes image buffer = record { world = record { table = t; bytes = bytes; image = image }; buffer = buffer }
 
 abbrev pub answer_of : Event → Result ℕ Fault
 answer_of e = e.answer
@@ -86,6 +84,6 @@ module _ (holds : Images) where
     pub buffer_stays : buffer' ≡ buffer
     pub answers_stay : answers' ≡ answers
 
-  abbrev pub Replayed : List ℕ → List ℕ → List ℕ → List ℕ → List Request → List (Result ℕ Fault) → Result Shelf Fault → List ℕ → List ℕ → List ℕ → List (Result ℕ Fault) → Type 0
-  Replayed name bytes image buffer rs answers (Ok s) bytes' image' buffer' answers' = Replays name bytes image buffer rs (scene s bytes' image' buffer') answers answers'
+  abbrev pub Replayed : List ℕ → List ℕ → List ℕ → List ℕ → List Request → List (Result ℕ Fault) → Result Table Fault → List ℕ → List ℕ → List ℕ → List (Result ℕ Fault) → Type 0
+  Replayed name bytes image buffer rs answers (Ok t) bytes' image' buffer' answers' = Replays name bytes image buffer rs (scene t bytes' image' buffer') answers answers'
   Replayed name bytes image buffer rs answers (Err f) bytes' image' buffer' answers' = Unmade name bytes image buffer f bytes' image' buffer' answers answers'

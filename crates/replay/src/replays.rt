@@ -50,8 +50,9 @@ fn play<S: Store>(
     ensures played { Played (S.holds base.old) (scene shelf.old bytes.old (S.image base.old) buffer.old) (take (length answers.old) requests.now) (scene shelf.new bytes.new (S.image base.new) buffer.new) answers.old answers.new }
 {
     let count = requests.len().min(answers.len());
-    for i in 0..count {
-        answers[i] = make_call(shelf, base, bytes, buffer, requests[i]);
+    for (i, request) in requests[..count].iter().enumerate() {
+        // by its index, since a proof knows nothing of what a chain over `iter_mut` wrote
+        answers[i] = make_call(shelf, base, bytes, buffer, *request);
     }
 }
 

@@ -1,8 +1,25 @@
+ghost use Rattle.std.specs.Prelude.{◌≡◌, ◌+◌, ◌≤◌, min};
+
+use std::ops::Range;
+
 // A part of a buffer: its first place and its length. What passes the buffer's end is cut off.
 #[derive(Clone, Copy)]
 pub struct Window {
     pub start: usize,
     pub length: usize,
+}
+
+impl Window {
+    // The places of the window in a buffer of so many bytes.
+    pub(crate) fn within(self, room: usize) -> Range<usize>
+        ensures start { result.start ≡ min self.start room }
+        ensures end { result.end ≡ min (self.start + self.length) room }
+        ensures ordered { (result.start ≤ result.end) × (result.end ≤ room) }
+    {
+        let start = self.start.min(room);
+        let length = self.length.min(room - start);
+        start..start + length
+    }
 }
 
 // A call of a series, with its arguments. It is handed the first `handed` of the shelf's bytes, all of

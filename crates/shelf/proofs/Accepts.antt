@@ -6,7 +6,7 @@ use Rattle.fault.specs.declared.kinds.Cause.TheVariants as causes
 use Rattle.fault.specs.declared.kinds.Fault.{Fault}
 use Rattle.std.proofs.lemmas.Bool.{ltb-false, eqb-false, cases_Bool}
 use Rattle.stream.specs.Bytes.{le, field}
-use Rattle.stream.specs.Rule.{from_rule, to_rule, size_rule, late_rule}
+use Rattle.stream.specs.Rule.{State, from_rule, to_rule, size_rule, late_rule}
 use Rattle.stream.specs.Steps.{Pos, every_printable, name_of, size_of, range_of, payload_of, from_step, to_step, size_step, data_step, zeros_step, end_step, record_of, step_of, fault_at}
 use Rattle.stream.specs.Records.{Content, from_name, to_name, image_size, data_at, zeros_at, header}
 use Rattle.stream.specs.Verdict.{start, verdict, reads, onward, taken, before, same}
@@ -14,7 +14,6 @@ use Rattle.stream.specs.Wellformed.{GoodName, GoodRange, Good, rule_of, moved, W
 use Rattle.stream.specs.Difference.{Difference, difference, meaning, Expressible}
 use Rattle.stream.specs.declared.kinds.Record.{Record}
 use Rattle.stream.specs.declared.kinds.Record.TheVariants.{End}
-use Rattle.stream.specs.declared.kinds.State.{State}
 use Rattle.stream.proofs.Back.{passes, at_true, at_false, late_data, then_back, passes_last, before_back, ok_same}
 use Rattle.stream.proofs.Sounds.{never, sound_exactly}
 use Rattle.join.proofs.Accepted.{sound_expressible}

@@ -5,7 +5,8 @@ use Rattle.stream.specs.Difference.{Difference, canonical}
 use Rattle.table.specs.Tables.{Row, Table, end_of, no_row, row_at, fill_after, moved, one_row, add_row, unite_rows, drop_row}
 use Rattle.shelf.specs.Entries.{replaced}
 use Rattle.overlay.proofs.Overlaid.{cons}
-use Rattle.shelf.proofs.Pieces.{strung_append, getD_here, getD_next}
+use Rattle.std.proofs.lemmas.Grind.{flat_map-append}
+use Rattle.shelf.proofs.Pieces.{getD_here, getD_next}
 use Rattle.shelf.proofs.Spliced.{spliced}
 use Rattle.shelf.proofs.Tabled.{united_as}
 use Rattle.shelf.proofs.Standing.{long, all_bytes, row_for, rows_for, table_for, Stands, length_rows, rows_split, rows_moved}
@@ -17,7 +18,7 @@ table_is base rs ss m n p q = rw (p, q) refl
 -- one more
 module _ (ds : List Difference) (d : Difference) (t : Table) (bytes : List ℕ) (h : Stands ds t bytes) where
   pushed_bytes : all_bytes (ds ++ (d ∷ [])) ≡ all_bytes ds ++ canonical d
-  pushed_bytes = strung_append canonical ds (d ∷ []) ∙ ap (λ x. all_bytes ds ++ x) (append-nil (canonical d))
+  pushed_bytes = flat_map-append canonical ds (d ∷ []) ∙ ap (λ x. all_bytes ds ++ x) (append-nil (canonical d))
 
   pushed_table : add_row (table_for h.base ds) (long d) d.from d.to ≡ table_for h.base (ds ++ (d ∷ []))
   pushed_table = table_is h.base _ _ _ _ (sym (rows_split ds (d ∷ []))) (sym (ap length pushed_bytes ∙ length-append (all_bytes ds) (canonical d)))
@@ -45,7 +46,7 @@ module _ (pre : List Difference) (d e : Difference) (bs : List Difference) (t : 
   end = start + long d + long e
 
   two_bytes : all_bytes (pre ++ (d ∷ e ∷ bs)) ≡ all_bytes pre ++ ((canonical d ++ canonical e) ++ all_bytes bs)
-  two_bytes = strung_append canonical pre (d ∷ e ∷ bs) ∙ ap (λ x. all_bytes pre ++ x) (sym (append_assoc (canonical d) (canonical e) (all_bytes bs)))
+  two_bytes = flat_map-append canonical pre (d ∷ e ∷ bs) ∙ ap (λ x. all_bytes pre ++ x) (sym (append_assoc (canonical d) (canonical e) (all_bytes bs)))
 
   two_fill : t.fill ≡ end + length (all_bytes bs)
   two_fill =
@@ -62,7 +63,7 @@ module _ (pre : List Difference) (d e : Difference) (bs : List Difference) (t : 
   two_next = ap (λ x. row_at x (i + 1)) two_rows ∙ getD_next (rows_for 0 pre) (row_for start d) (row_for (start + long d) e) (rows_for end bs) no_row i (length_rows 0 pre ∙ count)
 
   one_bytes : (j : Difference) → all_bytes (pre ++ (j ∷ bs)) ≡ all_bytes pre ++ (canonical j ++ all_bytes bs)
-  one_bytes j = strung_append canonical pre (j ∷ bs)
+  one_bytes j = flat_map-append canonical pre (j ∷ bs)
 
   one_table : (j : Difference) → j.from ≡ d.from → j.to ≡ e.to → unite_rows t i (long j) ≡ table_for h.base (pre ++ (j ∷ bs))
   one_table j from to =

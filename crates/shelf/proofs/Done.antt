@@ -1,6 +1,6 @@
 -- What a join and a settle that were not refused tell of the shelf, so that it may be altered.
-use Rattle.std.proofs.Common.{◌≡◌, ℕ, ◌+◌, ◌≤◌, false, ltb, List, ◌++◌, length, take, drop, IfOk, Ok, Err, Result, sym, refl, ap, ◌∙◌, subst}
-use Rattle.fault.specs.Fault.{in_entry}
+use Rattle.std.proofs.Common.{◌≡◌, ℕ, ◌+◌, ◌≤◌, false, leb, ltb, List, ◌++◌, length, take, drop, IfOk, Ok, Err, Result, sym, refl, ap, ◌∙◌, subst}
+use Rattle.fault.specs.Fault.{fault_by, in_entry, then}
 use Rattle.fault.specs.declared.kinds.Fault.{Fault}
 use Rattle.fault.specs.declared.kinds.Layer.TheVariants.{Join}
 use Rattle.std.proofs.lemmas.List.{take_at}
@@ -11,7 +11,7 @@ use Rattle.stream.specs.Difference.{Difference, joined, canonical}
 use Rattle.stream.proofs.Back.{passes, then_back, ok_same}
 use Rattle.stream.proofs.Sounds.{never}
 use Rattle.table.specs.Tables.{Table, end_of, row_at, unite_rows}
-use Rattle.shelf.specs.Entries.{unless_refused, entry, replaced}
+use Rattle.shelf.specs.Entries.{unless_refused, are_there, entry, replaced}
 use Rattle.shelf.specs.Outcomes.{united_fill, join_fits, join_plan, join_stream, join_answer, join_work, settle_plan, settle_by, settle_outcome, settle_answer}
 use Rattle.shelf.specs.Steps.{MayUnite, MayLeave}
 use Rattle.shelf.proofs.Plans.{fault_by_back, settle_planned}
@@ -80,3 +80,35 @@ settle_done holds t bytes image h =
 pub may_leave : (holds : Images) (t : Table) (bytes image : List ℕ) (r : Result (Unit {0}) Fault) → r ≡ settle_answer holds t bytes image → IfOk r (λ _. MayLeave t bytes)
 may_leave holds t bytes image (Ok u) e = settle_done holds t bytes image (sym e)
 may_leave holds t bytes image (Err f) e = tt
+
+-- a fault of entry 0 has its number already
+read_in_first : (r : Result Difference Fault) (f : Fault) → Err f ≡ fault_by (in_entry 0) r → in_entry 0 f ≡ f
+read_in_first (Ok d) f e = never d f e
+read_in_first (Err h) f e = let k : in_entry 0 h ≡ f = cc in rw (← k) refl
+
+pub entry_in_first : (t : Table) (bytes : List ℕ) (f : Fault) → Err f ≡ entry t bytes 0 → in_entry 0 f ≡ f
+unfolding entry
+entry_in_first t bytes f e = read_in_first _ f e
+
+-- what a join leaves in the work buffer is the same whatever its fault gains
+work_by : (g : Fault → Fault) (x : Result Difference Fault) (work : List ℕ)
+    → filled_by (then (fault_by g x) (λ d. Ok (canonical d))) work ≡ filled_by (then x (λ d. Ok (canonical d))) work
+work_by g (Ok d) work = refl
+work_by g (Err f) work = refl
+
+after_both : (a b : Result Difference Fault) (j : Difference) (k : Difference → Result Difference Fault)
+    → Ok j ≡ then a (λ d. then b (λ e. Ok (joined d e))) → then a (λ d. then b (λ e. k (joined d e))) ≡ k j
+after_both (Ok d) (Ok e) j k h = ap k (ok_same _ _ (sym h))
+after_both (Ok d) (Err f) j k h = never j f (sym h)
+after_both (Err f) b j k h = never j f (sym h)
+
+pub joined_work : (t : Table) (bytes : List ℕ) (i : ℕ) (work : List ℕ) (j : Difference) → Ok tt ≡ are_there t bytes i 1
+    → Ok j ≡ then (entry t bytes i) (λ d. then (entry t bytes (i + 1)) (λ e. Ok (joined d e)))
+    → filled_by (then (join_fits t bytes i work j) (λ d. Ok (canonical d))) work ≡ join_work t bytes i work
+unfolding join_plan
+joined_work t bytes i work j there read =
+    let a = passes (leb (length t.rows) (i + 1)) _ _ tt (sym there) in
+    let b = passes (ltb (length bytes) t.fill) _ _ tt a.1 in
+    let fits : Difference → Result Difference Fault = λ d. fault_by (in_entry i) (join_fits t bytes i work d) in
+    let plan : join_plan t bytes i work ≡ fits j = rw (a.0, b.0) (after_both (entry t bytes i) (entry t bytes (i + 1)) j fits read) in
+    sym (work_by (in_entry i) (join_fits t bytes i work j) work) ∙ ap (λ r. filled_by (then r (λ d. Ok (canonical d))) work) (sym plan)

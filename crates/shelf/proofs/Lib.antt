@@ -1,11 +1,7 @@
 pub mod Plans
 pub mod Spliced
-mod Assembled
 mod Done
-mod Joined
 mod Sourced
-mod Reading
-mod Putting
 pub mod Pieces
 pub mod Algebra
 pub mod Tabled

@@ -1,11 +1,6 @@
 -- Lists in a row, and lists taken apart at an index. Assumes nothing.
 use Rattle.std.proofs.Common.{◌≡◌, ℕ, zero, suc, ◌+◌, ◌<◌, List, [], ◌∷◌, ◌++◌, length, get_or, take, drop, sym, refl, ap, ◌∙◌, arith}
 use Rattle.std.proofs.lemmas.List.{append_assoc, length-append, take_at, drop_at, get_or_at, get_or-append-add}
-use Rattle.std.specs.List.{flat_map as strung}
-
-pub strung_append : {X A : Type 0} (f : X → List A) (xs ys : List X) → strung f (xs ++ ys) ≡ strung f xs ++ strung f ys
-strung_append f [] ys = refl
-strung_append f (x ∷ xs) ys = ap (λ zs. f x ++ zs) (strung_append f xs ys) ∙ sym (append_assoc (f x) (strung f xs) (strung f ys))
 
 -- a list around its item i, and around its items i and i + 1
 pub record Around {X : Type 0} (xs : List X) (i : ℕ) : Type 0 where

@@ -6,8 +6,8 @@ use Rattle.stream.specs.Difference.{Difference, canonical}
 use Rattle.table.specs.Tables.{Row, Table, no_row, row_at, moved}
 use Rattle.shelf.specs.Entries.{slice, shelf_streams}
 use Rattle.overlay.proofs.Overlaid.{cons}
-use Rattle.shelf.proofs.Pieces.{strung_append}
-use Rattle.shelf.proofs.Spliced.{take_past}
+use Rattle.std.proofs.Math.Seq.{take-append-add}
+use Rattle.std.proofs.lemmas.Grind.{flat_map-append}
 
 -- how long a difference's stream is
 abbrev pub long : Difference → ℕ
@@ -87,7 +87,7 @@ module _ (ds : List Difference) (t : Table) (bytes : List ℕ) (h : Stands ds t 
         base = h.base;
         table = h.table;
         tail = take (k - length a) h.tail;
-        is = ap₂ take z h.is ∙ take_past a h.tail (k - length a);
+        is = ap₂ take z h.is ∙ take-append-add a h.tail (k - length a);
       }
 
   pub stands_beyond : (more : List ℕ) → Stands ds t (bytes ++ more)
@@ -109,6 +109,6 @@ module _ (ds : List Difference) (t : Table) (bytes : List ℕ) (h : Stands ds t 
       let a = all_bytes pre in
       let c = canonical d in
       let parts : bytes ≡ a ++ (c ++ (all_bytes bs ++ h.tail)) =
-      h.is ∙ ap (λ x. all_bytes x ++ h.tail) e ∙ ap (λ x. x ++ h.tail) (strung_append canonical pre (d ∷ bs))
+      h.is ∙ ap (λ x. all_bytes x ++ h.tail) e ∙ ap (λ x. x ++ h.tail) (flat_map-append canonical pre (d ∷ bs))
       ∙ append_assoc a (c ++ all_bytes bs) h.tail ∙ ap (λ x. a ++ x) (append_assoc c (all_bytes bs) h.tail) in
       ap (λ x. slice x (row_for (length a) d)) parts ∙ slice_is a c (all_bytes bs ++ h.tail) (length a) (long d) d.from d.to refl refl

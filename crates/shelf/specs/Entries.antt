@@ -1,7 +1,7 @@
 -- Entries in the shelf's bytes: reading one, and bytes that take the place of others. Rests on the table, on what a stream means, and on faults.
-use Rattle.std.specs.Prelude.{ℕ, ◌-◌, Bool, cond, not, ◌&&◌, List, ◌++◌, map, length, take, drop, Ok, Err, Result, nat_lt}
+use Rattle.std.specs.Prelude.{ℕ, ◌+◌, ◌-◌, Bool, cond, not, ◌&&◌, List, ◌++◌, map, length, take, drop, Ok, Err, Result, nat_le, nat_lt}
 use Rattle.fault.specs.Fault.{fault, fault_by, in_entry, then}
-use Rattle.fault.specs.declared.kinds.Cause.TheVariants.{Damaged}
+use Rattle.fault.specs.declared.kinds.Cause.TheVariants.{NoEntry, Damaged}
 use Rattle.fault.specs.declared.kinds.Fault.{Fault}
 use Rattle.stream.specs.Bytes.{field}
 use Rattle.stream.specs.Verdict.{same}
@@ -20,6 +20,11 @@ unless_refused (Err f) new old = old
 -- the bytes end before the fill
 abbrev pub is_short : Table → List ℕ → Bool
 is_short t bytes = nat_lt (length bytes) t.fill
+
+-- entry i and `more` entries behind it are there, in bytes that reach the fill
+abbrev pub are_there : Table → List ℕ → ℕ → ℕ → Result (Unit {0}) Fault
+are_there t bytes i more =
+    refuse_if (nat_le (length t.rows) (i + more)) (in_entry i (fault NoEntry i)) (refuse_if (is_short t bytes) (in_entry i (fault Damaged 0)) (Ok tt))
 
 -- an entry's part of the bytes, and the streams of all entries in order
 abbrev pub slice : List ℕ → Row → List ℕ

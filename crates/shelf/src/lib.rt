@@ -7,11 +7,12 @@ ghost use Rattle.shelf.specs.Refusals.{RefusalsAlterNothing};
 ghost use Rattle.shelf.specs.TableLaws.{LawsOfTables};
 
 mod bytes;
+mod contents;
 mod entries;
-mod joining;
 mod joins;
 mod lists;
 mod moves;
+mod neighbours;
 mod puts;
 mod settling;
 mod shelf;

@@ -2,7 +2,6 @@
 ghost use Rattle.std.specs.Prelude.{◌≡◌, ◌+◌, ◌<◌, ◌≤◌, [], length};
 ghost use Rattle.shelf.specs.Entries.{replaced};
 ghost use Rattle.shelf.specs.Outcomes.{united_fill};
-ghost use Rattle.table.specs.Held.{table_of};
 ghost use Rattle.table.specs.Tables.{end_of, row_at, unite_rows, drop_row};
 
 use crate::bytes::{close_front, replace};
@@ -10,11 +9,11 @@ use table::EntryTable;
 
 // Entries i and i + 1 become one: `joined` takes the place of their streams.
 pub(crate) fn unite_entries(table: &mut EntryTable, bytes: &mut [u8], i: usize, joined: &[u8])
-    requires two { i + 1 < length (table_of table.old).rows }
-    requires reaches { (table_of table.old).fill ≤ length bytes.old }
-    requires room { united_fill (table_of table.old) i (length joined.now) ≤ length bytes.old }
-    ensures table { table_of table.new ≡ unite_rows (table_of table.old) i (length joined.now) }
-    ensures bytes { bytes.new ≡ replaced (table_of table.old).fill bytes.old (row_at (table_of table.old) i).place (end_of (row_at (table_of table.old) (i + 1))) joined.now }
+    requires two { i + 1 < length table.old.rows }
+    requires reaches { table.old.fill ≤ length bytes.old }
+    requires room { united_fill table.old i (length joined.now) ≤ length bytes.old }
+    ensures table { table.new ≡ unite_rows table.old i (length joined.now) }
+    ensures bytes { bytes.new ≡ replaced table.old.fill bytes.old (row_at table.old i).place (end_of (row_at table.old (i + 1))) joined.now }
 {
     let earlier = table.entry(i);
     let later = table.entry(i + 1);
@@ -25,10 +24,10 @@ pub(crate) fn unite_entries(table: &mut EntryTable, bytes: &mut [u8], i: usize, 
 
 // Entry 0 leaves, and the others move to the front.
 pub(crate) fn drop_entry(table: &mut EntryTable, bytes: &mut [u8])
-    requires one { 0 < length (table_of table.old).rows }
-    requires reaches { (table_of table.old).fill ≤ length bytes.old }
-    ensures table { table_of table.new ≡ drop_row (table_of table.old) }
-    ensures bytes { bytes.new ≡ replaced (table_of table.old).fill bytes.old 0 (end_of (row_at (table_of table.old) 0)) [] }
+    requires one { 0 < length table.old.rows }
+    requires reaches { table.old.fill ≤ length bytes.old }
+    ensures table { table.new ≡ drop_row table.old }
+    ensures bytes { bytes.new ≡ replaced table.old.fill bytes.old 0 (end_of (row_at table.old 0)) [] }
 {
     let first = table.entry(0);
     close_front(bytes, table.fill(), first.place + first.length);

@@ -9,15 +9,10 @@ use store::FlatImage;
 
 // The part of the bytes from one place up to another; none where there is no such part.
 fn part(bytes: &[u8], start: u64, end: u64) -> &[u8] {
-    if start > end || end > bytes.len() as u64 {
-        return &[];
-    }
-    let first = start as usize;
-    let last = end as usize;
-    &bytes[first..last]
+    bytes.get(start as usize..end as usize).unwrap_or(&[])
 }
 
-// Puts streams that lie end to end; `ends` tells where each ends.
+// Puts streams that lie end to end, as C hands them over; `ends` tells where each ends.
 fn put_all(shelf: &mut Shelf, bytes: &mut [u8], streams: &[u8], ends: &[u64]) -> u64
     ensures { result ≤ length ends.now }
 {
@@ -32,33 +27,23 @@ fn put_all(shelf: &mut Shelf, bytes: &mut [u8], streams: &[u8], ends: &[u64]) ->
     accepted
 }
 
-// Joins the first two entries so many times.
-fn join_all(shelf: &mut Shelf, bytes: &mut [u8], work: &mut [u8], joins: u64) -> u64
-    ensures { result ≤ joins }
+// Makes a call so many times, and counts how often it is accepted. (By a loop: of `filter` over a call
+// that alters something, the check does not find that it counts at most `times`.)
+fn accepted<F: FnMut() -> bool>(times: u64, mut call: F) -> u64
+    requires { F.IsAlwaysCallable call }
+    ensures { result ≤ times }
 {
     let mut accepted = 0;
-    for i in 0..joins {
-        if shelf.join(bytes, 0, work).is_ok() {
+    for i in 0..times {
+        if call() {
             accepted += 1;
         }
     }
     accepted
 }
 
-// Settles entry 0 so many times.
-fn settle_all(shelf: &mut Shelf, bytes: &mut [u8], base: &mut FlatImage, settles: u64) -> u64
-    ensures { result ≤ settles }
-{
-    let mut accepted = 0;
-    for i in 0..settles {
-        if shelf.settle(bytes, base).is_ok() {
-            accepted += 1;
-        }
-    }
-    accepted
-}
-
-// Puts, joins and settles on an empty shelf beside an empty flat image.
+// Puts, joins and settles on an empty shelf beside an empty flat image. From C the streams come as their
+// bytes end to end and where each of them ends.
 #[unsafe(no_mangle)]
 pub extern "C" fn bench_shelf(
     streams: &[u8],
@@ -76,7 +61,7 @@ pub extern "C" fn bench_shelf(
     };
     let mut base = FlatImage::open(memory, 0);
     let puts = put_all(&mut shelf, bytes, streams, ends);
-    let joined = join_all(&mut shelf, bytes, work, joins);
-    let settled = settle_all(&mut shelf, bytes, &mut base, settles);
+    let joined = accepted(joins, || shelf.join(bytes, 0, work).is_ok());
+    let settled = accepted(settles, || shelf.settle(bytes, &mut base).is_ok());
     puts.saturating_add(joined).saturating_add(settled)
 }

@@ -7,11 +7,11 @@ use Rattle.store.specs.declared.flat.FlatImage.{FlatImage}
 
 -- what the lent memory holds
 abbrev pub flat_memory : FlatImage → List ℕ
-flat_memory s = s.memory.bytes.now
+flat_memory s = s.bytes.now
 
 -- its bytes now
 abbrev pub flat_image : FlatImage → List ℕ
-flat_image s = take s.memory.size (flat_memory s)
+flat_image s = take s.size (flat_memory s)
 
 -- the images that it can hold: every image up to the memory's length and 2^40
 abbrev pub flat_holds : FlatImage → Images
@@ -19,11 +19,11 @@ flat_holds s = flat_set (flat_memory s)
 
 -- past the size now, the memory is as it was before the call
 abbrev pub PastKept : FlatImage → FlatImage → Type 0
-PastKept before s = drop s.memory.size (flat_memory s) ≡ drop s.memory.size (flat_memory before)
+PastKept before s = drop s.size (flat_memory s) ≡ drop s.size (flat_memory before)
 
 pub flat_laws : Laws flat_image flat_holds
 unfolding flat_set
 flat_laws = record {
-  present = λ s. let h = s.fits in le-leb _ _ (omega (arith, length-take s.memory.size (flat_memory s)));
+  present = λ s. let h = s.fits in le-leb _ _ (omega (arith, length-take s.size (flat_memory s)));
   limited = λ s b h. omega (arith, leb-true _ _ h);
 }

@@ -34,6 +34,10 @@ and_then first next = elim first.0 [ Ok u ↦ next first.1 | Err f ↦ first ]
 abbrev pub if_held : Images → ℕ → List ℕ → List ℕ → Outcome
 if_held holds place old new = cond (holds new) (done new) (refused NoRoom place old)
 
+-- whether a range ends inside an image of a size: if not, its offset is the place of the fault
+abbrev pub range_answer : ℕ → ℕ → ℕ → Result (Unit {0}) Fault
+range_answer offset count size = cond (nat_le (offset + count) size) (Ok tt) (Err (fault Outside offset))
+
 -- a call on a range, refused exactly if offset and length together pass the image's size
 abbrev pub if_inside : List ℕ → ℕ → ℕ → Outcome → Outcome → Outcome
 if_inside image offset count outcome outside = cond (nat_le (offset + count) (length image)) outcome outside

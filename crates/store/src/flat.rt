@@ -1,13 +1,13 @@
 ghost use Rattle.std.specs.Prelude.{◌≤◌};
 ghost use Rattle.store.specs.Memory.{flat_room};
 
-use crate::memory::Memory;
-
 pub mod calls;
+mod changes;
 
-// An image in one piece of lent memory.
+// An image in one piece of lent memory: its first `size` bytes.
 #[derive(Drop)]
 pub struct FlatImage<'a> {
-    memory: Memory<'a>,
-    ghost fits: { memory.size ≤ flat_room memory.bytes.now },
+    bytes: &'a mut [u8],
+    size: u64,
+    ghost fits: { size ≤ flat_room bytes.now },
 }

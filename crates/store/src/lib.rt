@@ -4,9 +4,8 @@
 
 mod contract;
 mod flat;
-mod memory;
 mod range;
 
 pub use contract::Store;
 pub use flat::FlatImage;
-pub use range::within;
+pub use range::{check_range, within};

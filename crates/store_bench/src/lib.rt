@@ -11,13 +11,10 @@ use store::{FlatImage, Store};
 fn write_all<S: Store>(image: &mut S, bytes: &[u8], offsets: &[u64]) -> u64
     ensures { result ≤ length offsets.now }
 {
-    let mut accepted = 0;
-    for offset in offsets {
-        if image.write(*offset, bytes).is_ok() {
-            accepted += 1;
-        }
-    }
-    accepted
+    offsets
+        .iter()
+        .filter(|offset| image.write(**offset, bytes).is_ok())
+        .count() as u64
 }
 
 // Zeroes the whole image.
@@ -25,27 +22,17 @@ fn zero_all<S: Store>(image: &mut S) -> u64
     ensures { result ≤ 1 }
 {
     let size = image.size();
-    match image.zero(0, size) {
-        Ok(()) => 1,
-        Err(_) => 0,
-    }
+    u64::from(image.zero(0, size).is_ok())
 }
 
 // Cuts the image to nothing and lets it grow again.
 fn regrow<S: Store>(image: &mut S, size: u64) -> u64
     ensures { result ≤ 2 }
 {
-    let mut accepted = 0;
-    if image.resize(0).is_ok() {
-        accepted += 1;
-    }
-    if image.resize(size).is_ok() {
-        accepted += 1;
-    }
-    accepted
+    u64::from(image.resize(0).is_ok()) + u64::from(image.resize(size).is_ok())
 }
 
-// Writes, and then zeroes and regrows the image if asked.
+// Writes, and then zeroes and regrows the image if asked: the two flags are C's numbers, 0 for no.
 fn work<S: Store>(
     image: &mut S,
     size: u64,

@@ -9,7 +9,7 @@ mod tests {
 
     const DONE: [u64; 5] = [0; 5];
 
-    // The numbers of a refusal: cause, layer, place, record and entry.
+    // The five numbers of a refusal, as docs/REFUSALS.md has them.
     fn numbers(answer: Result<(), Fault>) -> [u64; 5] {
         match answer {
             Ok(()) => DONE,

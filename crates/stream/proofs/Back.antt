@@ -3,13 +3,11 @@ use Rattle.std.proofs.ByRecursion.{All-take, All-drop}
 use Rattle.std.proofs.lemmas.List.{take-append-drop, length-take-le, length-drop, nil_from_length}
 use Rattle.std.proofs.lemmas.Bool.{ltb-false, eqb-true, eqb-false, cases_Bool, and_parts, cond-true, cond-false}
 use Rattle.stream.specs.Bytes.{le, le_bytes, field}
-use Rattle.stream.specs.Rule.{late_rule}
+use Rattle.stream.specs.Rule.{State, Meta, Data, late_rule}
 use Rattle.stream.specs.Steps.{Pos, every_printable, name_by, name_of, size_by, range_by, range_of, payload_of, record_of, step_of}
 use Rattle.stream.specs.Records.{Content, from_name, to_name, image_size, data_at, zeros_at, encoded, encodings, header}
 use Rattle.stream.specs.Verdict.{start, reads, onward, before, same}
 use Rattle.stream.specs.Wellformed.{GoodName, GoodRange, Good, rule_of, moved, WellFormed, Bytes, AcceptedIsStream}
-use Rattle.stream.specs.declared.kinds.State.{State}
-use Rattle.stream.specs.declared.kinds.State.TheVariants.{Meta, Data}
 use Rattle.stream.specs.declared.kinds.Record.{Record}
 use Rattle.fault.specs.Fault.{then}
 use Rattle.fault.specs.declared.kinds.Fault.{Fault}
@@ -39,8 +37,8 @@ at_false b x y z e h = sym (cond-false b x y e) ∙ h
 pub ok_same : {A E : Type 0} (x y : A) → ◌≡◌ {A = Result A E} (Ok x) (Ok y) → x ≡ y
 ok_same x y h = cc
 
-name_back : (rest : List ℕ) (n m : ℕ) → name_by rest n ≡ Ok m
-    → (5 + n ≤ length rest) × (1 ≤ n) × (n ≤ 64) × (every_printable (field rest 5 n) ≡ true)
+pub name_back : (rest : List ℕ) (n m : ℕ) → name_by rest n ≡ Ok m
+    → (5 + n ≤ length rest) × (1 ≤ n) × (n ≤ 64) × (every_printable (field rest 5 n) ≡ true) × (n ≡ m)
 name_back rest n m h =
     let a = passes _ _ _ m h in
     let b = passes _ _ _ m a.1 in
@@ -48,7 +46,7 @@ name_back rest n m h =
     let d = passes _ _ _ m c.1 in
     let e = passes_last _ _ _ m d.1 in
     let zero-not = eqb-false n 0 b.0 in
-    (ltb-false (length rest) (5 + n) d.0, omega (arith, zero-not), ltb-false 64 n c.0, e.0)
+    (ltb-false (length rest) (5 + n) d.0, omega (arith, zero-not), ltb-false 64 n c.0, e.0, e.1)
 
 size_back : (rest : List ℕ) (n m : ℕ) → size_by rest n ≡ Ok m → (9 ≤ length rest) × (n ≤ 2 ^ 40) × (n ≡ m)
 size_back rest n m h =
@@ -56,7 +54,7 @@ size_back rest n m h =
     let b = passes _ _ _ m a.1 in
     (ltb-false (length rest) 9 a.0, ltb-false (2 ^ 40) n b.0, let e = b.1 in cc)
 
-range_back : (p : Pos) (rest : List ℕ) (o n : ℕ) (q : ℕ × ℕ) → range_by p rest o n ≡ Ok q → (17 ≤ length rest) × GoodRange p o n × (q ≡ (o, n))
+pub range_back : (p : Pos) (rest : List ℕ) (o n : ℕ) (q : ℕ × ℕ) → range_by p rest o n ≡ Ok q → (17 ≤ length rest) × GoodRange p o n × (q ≡ (o, n))
 range_back p rest o n q h =
     let a = passes _ _ _ q h in
     let b = passes _ _ _ q a.1 in

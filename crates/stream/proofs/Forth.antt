@@ -2,11 +2,11 @@ use Rattle.std.proofs.Common.{◌≡◌, ℕ, zero, suc, ◌+◌, ◌-◌, ◌^�
 use Rattle.std.proofs.lemmas.List.{take_at, drop_at}
 use Rattle.std.proofs.lemmas.Bool.{lt-ltb, le-ltb, ne_eqb, cond-true, cond-false}
 use Rattle.stream.specs.Bytes.{le, le_bytes, field}
-use Rattle.stream.specs.Steps.{Pos, every_printable, name_by, name_of, size_by, range_by, payload_of, record_of, step_of}
+use Rattle.stream.specs.Steps.{Pos, every_printable, name_by, name_of, size_by, range_by, payload_of, span, record_of, step_of}
 use Rattle.stream.specs.Records.{Content, from_name, to_name, image_size, data_at, zeros_at, encoded, encodings, encoded_stream}
 use Rattle.stream.specs.Verdict.{start, reads, onward, taken, before}
 use Rattle.stream.specs.Wellformed.{GoodName, GoodRange, Good, rule_of, moved, WellFormed, ReadsBack}
-use Rattle.stream.specs.declared.kinds.State.{State}
+use Rattle.stream.specs.Rule.{State}
 use Rattle.stream.specs.declared.kinds.Record.{Record}
 use Rattle.stream.specs.declared.kinds.Record.TheVariants.{From, To, Size, Write, Zero}
 use Rattle.fault.specs.Fault.{then}
@@ -45,8 +45,8 @@ range_passes p rest o n a g =
 
 -- a record as it lies in the stream
 abbrev pub lies : Pos → Content → Record
-lies p (from_name name) = From (p.place + 5) (length name)
-lies p (to_name name) = To (p.place + 5) (length name)
+lies p (from_name name) = From (span (p.place + 5) (length name))
+lies p (to_name name) = To (span (p.place + 5) (length name))
 lies p (image_size n) = Size n
 lies p (data_at offset bytes) = Write offset (length bytes) (p.place + 17)
 lies p (zeros_at offset n) = Zero offset n

@@ -1,10 +1,10 @@
 use Rattle.std.proofs.Common.{◌≡◌, ℕ, ◌+◌, ◌≤◌, List, [], ◌∷◌, ◌++◌, length, take, drop, Ok, Err, Result, sym, refl, ap, ◌∙◌, ap₂, arith}
 use Rattle.std.proofs.lemmas.List.{length-take-le, length-drop, take_more_set}
 use Rattle.stream.specs.Bytes.{field}
-use Rattle.stream.specs.Steps.{Pos, Lies}
+use Rattle.stream.specs.Steps.{Pos, span, Lies}
 use Rattle.stream.specs.Records.{Content, from_name, to_name, image_size, data_at, zeros_at, encoded}
-use Rattle.stream.specs.Verdict.{reads, onward, taken, before}
-use Rattle.stream.specs.Gathered.{Gathered, span, zero_run, payload_run, noted, gathered_from, gathered_of, noted_by, runs_by, Room}
+use Rattle.stream.specs.Verdict.{taken, before}
+use Rattle.stream.specs.Gathered.{Gathered, zero_run, payload_run, noted, gathered_from, gathered_of, noted_by, runs_by, Room}
 use Rattle.stream.specs.declared.kinds.Record.{Record}
 use Rattle.stream.specs.declared.kinds.Record.TheVariants.{From, To, Size, Write, Zero, End}
 use Rattle.overlay.specs.declared.runs.Run.{Run}
@@ -12,8 +12,6 @@ use Rattle.overlay.specs.declared.payloads.PayloadMark.{PayloadMark}
 use Rattle.overlay.specs.declared.payloads.Side.{Side}
 use Rattle.stream.specs.declared.kinds.Summary.{Summary}
 use Rattle.fault.specs.declared.kinds.Fault.{Fault}
-use Rattle.fault.specs.declared.kinds.Cause.{Cause}
-use Rattle.stream.proofs.Ran.{left_behind}
 
 -- a record in front is noted first
 noted_first : (side : Side) (g : Gathered) (place : ℕ) (c : Content) (o : Result (List Content) Fault)
@@ -26,19 +24,19 @@ pub field_length : (rest : List ℕ) (i n : ℕ) → i + n ≤ length rest → l
 field_length rest i n h = let d = length-drop i rest in length-take-le n (drop i rest) (omega arith)
 
 -- what the code notes of a record is what the record says
-taken_noted : (side : Side) (p q : Pos) (r : Record) (rest : List ℕ) (s : Summary) (out : List (Run PayloadMark)) (o : Result (List Content) Fault) (n : ℕ)
+pub taken_noted : (side : Side) (p q : Pos) (r : Record) (rest : List ℕ) (s : Summary) (out : List (Run PayloadMark)) (o : Result (List Content) Fault) (n : ℕ)
     → Lies p (length rest) r q → Room s.count (length out) r → (r ≡ End → ⊥)
     → gathered_from side (gathered_of s out) p.place (taken o n rest r q) ≡ gathered_from side (gathered_of (noted_by s r) (runs_by side out s.count r)) q.place o
-taken_noted side p q (From a m) rest s out o n h room ne =
-    let l = field_length rest 5 m h.1 in
+taken_noted side p q (From a) rest s out o n h room ne =
+    let l = field_length rest 5 a.length h.1 in
     let e = h.2 in
     let F : ℕ → ℕ → Gathered = λ x y. record { from = span x y; to = s.to; size = s.size; runs = take s.count out } in
-    noted_first side _ p.place (from_name (field rest 5 m)) o ∙ ap₂ (λ x y. gathered_from side x y o) (ap₂ F (sym h.0) l) (omega arith)
-taken_noted side p q (To a m) rest s out o n h room ne =
-    let l = field_length rest 5 m h.1 in
+    noted_first side _ p.place (from_name (field rest 5 a.length)) o ∙ ap₂ (λ x y. gathered_from side x y o) (ap₂ F (sym h.0) l) (omega arith)
+taken_noted side p q (To a) rest s out o n h room ne =
+    let l = field_length rest 5 a.length h.1 in
     let e = h.2 in
     let F : ℕ → ℕ → Gathered = λ x y. record { from = s.from; to = span x y; size = s.size; runs = take s.count out } in
-    noted_first side _ p.place (to_name (field rest 5 m)) o ∙ ap₂ (λ x y. gathered_from side x y o) (ap₂ F (sym h.0) l) (omega arith)
+    noted_first side _ p.place (to_name (field rest 5 a.length)) o ∙ ap₂ (λ x y. gathered_from side x y o) (ap₂ F (sym h.0) l) (omega arith)
 taken_noted side p q (Size m) rest s out o n h room ne =
     let e = h.0 in
     noted_first side _ p.place (image_size m) o ∙ ap (λ y. gathered_from side (gathered_of (noted_by s (Size m)) out) y o) (omega arith)
@@ -55,29 +53,19 @@ taken_noted side p q (Zero offset m) rest s out o n h room ne =
     noted_first side _ p.place (zeros_at offset m) o ∙ ap₂ (λ x y. gathered_from side x y o) (ap F f) (omega arith)
 taken_noted side p q End rest s out o n h room ne = absurd (ne refl)
 
--- one turn
-pub gathers_on : (side : Side) (k n : ℕ) (xs rest : List ℕ) (o : Result (Record × Pos) Cause) (r : Record) (p q : Pos) (s : Summary) (out : List (Run PayloadMark)) → o ≡ Ok (r, q) → (r ≡ End → ⊥)
-    → rest ≡ drop p.place xs → p.place ≤ q.place → Lies p (length rest) r q → Room s.count (length out) r
-    → gathered_from side (gathered_of s out) p.place (onward (reads k n) n p.place rest o)
-    ≡ gathered_from side (gathered_of (noted_by s r) (runs_by side out s.count r)) q.place (reads k n q (drop q.place xs))
-gathers_on side k n xs rest o r p q s out e ne b l h room =
-    ap (λ t. gathered_from side (gathered_of s out) p.place (onward (reads k n) n p.place rest t)) e
-    ∙ taken_noted side p q r rest s out _ n h room ne
-    ∙ ap (λ t. gathered_from side (gathered_of (noted_by s r) (runs_by side out s.count r)) q.place (reads k n q t)) (left_behind p.place xs rest q b l)
-
 -- the count of runs is the reader's count of data records, and there is room
 pub counted : (p q : Pos) (left : ℕ) (r : Record) (s : Summary) → Lies p left r q → (r ≡ End → ⊥) → s.count ≡ p.count → p.count ≤ 512
     → ((noted_by s r).count ≡ q.count) × (q.count ≤ 512)
-counted p q left (From a m) s h ne e f = let x = h.3 in (omega arith, omega arith)
-counted p q left (To a m) s h ne e f = let x = h.3 in (omega arith, omega arith)
+counted p q left (From a) s h ne e f = let x = h.3 in (omega arith, omega arith)
+counted p q left (To a) s h ne e f = let x = h.3 in (omega arith, omega arith)
 counted p q left (Size m) s h ne e f = let x = h.1 in (omega arith, omega arith)
 counted p q left (Write o m a) s h ne e f = let x = h.3 in let y = h.4 in (omega arith, omega arith)
 counted p q left (Zero o m) s h ne e f = let x = h.1 in let y = h.2 in (omega arith, omega arith)
 counted p q left End s h ne e f = absurd (ne refl)
 
 pub has_room : (p q : Pos) (left n : ℕ) (r : Record) (s : Summary) → Lies p left r q → s.count ≡ p.count → n ≡ 512 → Room s.count n r
-has_room p q left n (From a m) s h e f = tt
-has_room p q left n (To a m) s h e f = tt
+has_room p q left n (From a) s h e f = tt
+has_room p q left n (To a) s h e f = tt
 has_room p q left n (Size m) s h e f = tt
 has_room p q left n (Write o m a) s h e f = let y = h.4 in omega arith
 has_room p q left n (Zero o m) s h e f = let y = h.2 in omega arith

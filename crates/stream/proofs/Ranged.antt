@@ -1,5 +1,5 @@
 -- The ranges that the code finds are those of the difference.
-use Rattle.std.proofs.Common.{◌≡◌, ℕ, ◌≤◌, List, [], ◌∷◌, map, length, take, Some, None, Ok, Err, Option, Result, sym, refl, ap, ◌∙◌, ap₂}
+use Rattle.std.proofs.Common.{◌≡◌, ℕ, List, [], ◌∷◌, map, take, Some, None, Ok, Err, Option, Result, sym, refl, ap, ◌∙◌, subst, ap₂}
 use mathlib.Core.List.{map-map}
 use Rattle.std.specs.Option.{option_map}
 use Rattle.overlay.specs.declared.runs.Run.{Run}
@@ -47,17 +47,17 @@ unfolding ranges part_ranges
 part_ranges_are earlier later parts size = ap (runs_from range_moves range_alike 0) (kinds_painted earlier later parts size)
 
 -- the overlay over nothing of runs by their kinds
-pub found : (parts : List (Run PayloadMark)) (size : ℕ) (bounds : List (Run RangeMark)) (k : ℕ) (out : List (Run RangeMark)) → bounds ≡ map (remarked range_of) parts
-    → Answers (runs_from range_moves range_alike 0 (overlaid range_filler (painted range_moves [] size) (painted range_moves bounds size))) (Some k) out
-    → (k ≤ length out) × (take k out ≡ part_ranges parts size)
+pub found : (parts : List (Run PayloadMark)) (size : ℕ) (bounds : List (Run RangeMark)) (o : Option ℕ) (k : ℕ) (out : List (Run RangeMark)) → bounds ≡ map (remarked range_of) parts
+    → o ≡ Some k → Answers (runs_from range_moves range_alike 0 (overlaid range_filler (painted range_moves [] size) (painted range_moves bounds size))) o out
+    → take k out ≡ part_ranges parts size
 unfolding part_ranges
-found parts size bounds k out e a = (
-  a.0,
-  a.1 ∙ ap (runs_from range_moves range_alike 0)
-      (ap (λ t. overlaid range_filler t (painted range_moves bounds size)) (painted_nothing range_moves size)
-      ∙ over_nothing range_filler size (painted range_moves bounds size) (painted_length range_moves bounds size)
-      ∙ ap (λ t. painted range_moves t size) e),
-)
+found parts size bounds o k out e s a =
+    let rs = runs_from range_moves range_alike 0 (overlaid range_filler (painted range_moves [] size) (painted range_moves bounds size)) in
+    (subst (λ v. Answers rs v out) s a).1
+    ∙ ap (runs_from range_moves range_alike 0)
+    (ap (λ t. overlaid range_filler t (painted range_moves bounds size)) (painted_nothing range_moves size)
+    ∙ over_nothing range_filler size (painted range_moves bounds size) (painted_length range_moves bounds size)
+    ∙ ap (λ t. painted range_moves t size) e)
 
 pub gathered_err : (side : Side) (g : Gathered) (place : ℕ) (o : Result (List Content) Fault) (f : Fault) → Err f ≡ gathered_from side g place o → o ≡ Err f
 gathered_err side g place (Ok cs) f h = never _ f h

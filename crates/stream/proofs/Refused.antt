@@ -2,13 +2,11 @@ use Rattle.std.proofs.Common.{◌≡◌, ℕ, zero, suc, ◌+◌, ◌-◌, ◌^�
 use Rattle.std.proofs.ByRecursion.{All-drop}
 use Rattle.std.proofs.lemmas.List.{take_at, drop_at}
 use Rattle.std.proofs.lemmas.Bool.{ltb-true, lt-ltb, eq-eqb, and_from, cases_Bool, true≢false, cond-true, cond-false}
-use Rattle.stream.specs.Rule.{late_rule}
+use Rattle.stream.specs.Rule.{State, Data, late_rule}
 use Rattle.stream.specs.Steps.{fault_at, Pos, step_of}
 use Rattle.stream.specs.Records.{Content, encoded, encodings, header}
 use Rattle.stream.specs.Verdict.{start, verdict, reads, onward, before, same}
 use Rattle.stream.specs.Wellformed.{moved, Bytes, Leads, Wrong, Stops, Refusal, RefusedExactly}
-use Rattle.stream.specs.declared.kinds.State.{State}
-use Rattle.stream.specs.declared.kinds.State.TheVariants.{Data}
 use Rattle.stream.specs.declared.kinds.Record.{Record}
 use Rattle.fault.specs.Fault.{fault}
 use Rattle.fault.specs.declared.kinds.Fault.{Fault}

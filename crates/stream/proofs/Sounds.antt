@@ -1,14 +1,12 @@
 use Rattle.std.proofs.Common.{◌≡◌, ℕ, ◌+◌, ◌≤◌, Bool, true, false, List, [], ◌∷◌, ◌++◌, length, Ok, Err, Result, sym, refl, ap, ◌∙◌, subst, arith}
 use Rattle.std.specs.List.{AllByRecursion}
-use Rattle.stream.specs.Rule.{meta, from_rule, to_rule, size_rule, late_rule}
+use Rattle.stream.specs.Rule.{State, Data, meta, from_rule, to_rule, size_rule, late_rule}
 use Rattle.stream.specs.Steps.{Pos}
 use Rattle.stream.specs.Records.{Content, from_name, to_name, image_size, data_at, zeros_at}
 use Rattle.stream.specs.Verdict.{start, verdict, checked}
 use Rattle.stream.specs.Wellformed.{WellFormed, moved, Bytes}
 use Rattle.stream.specs.Places.{size_in}
 use Rattle.stream.specs.Sound.{GoodMeta, froms, tos, sizes, Rising, SoundExactly, AcceptedExactly, Exact}
-use Rattle.stream.specs.declared.kinds.State.{State}
-use Rattle.stream.specs.declared.kinds.State.TheVariants.{Data}
 use Rattle.fault.specs.declared.kinds.Fault.{Fault}
 use Rattle.stream.proofs.Forth.{reads_back}
 use Rattle.stream.proofs.Back.{accepted_is_stream, ok_same}

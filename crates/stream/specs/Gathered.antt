@@ -1,6 +1,7 @@
 -- What reading gathers of a stream, record by record: its names by their places, its size and its data records as runs. Rests on the records.
 use Rattle.std.specs.Prelude.{ℕ, ◌+◌, ◌<◌, List, [], ◌∷◌, ◌++◌, length, take, Ok, Err, Result, slice_set}
 use Rattle.stream.specs.Records.{Content, from_name, to_name, image_size, data_at, zeros_at, encoded}
+use Rattle.stream.specs.Steps.{span}
 use Rattle.stream.specs.declared.kinds.Record.{Record}
 use Rattle.stream.specs.declared.kinds.Record.TheVariants.{From, To, Size, Write, Zero, End}
 use Rattle.overlay.specs.declared.runs.Run.{Run}
@@ -17,9 +18,6 @@ pub record Gathered : Type 0 where
   pub to : Span
   pub size : ℕ
   pub runs : List (Run PayloadMark)
-
-abbrev pub span : ℕ → ℕ → Span
-span place n = record { place = place; length = n }
 
 abbrev pub zero_run : ℕ → ℕ → Run PayloadMark
 zero_run offset n = record { offset = offset; length = n; mark = Zeroed }
@@ -57,16 +55,16 @@ seen (Err f) out = Err f
 
 -- a summary with a record, and the slice of runs with it
 abbrev pub noted_by : Summary → Record → Summary
-noted_by s (From place n) = record { from = span place n; to = s.to; size = s.size; count = s.count }
-noted_by s (To place n) = record { from = s.from; to = span place n; size = s.size; count = s.count }
+noted_by s (From name) = record { from = name; to = s.to; size = s.size; count = s.count }
+noted_by s (To name) = record { from = s.from; to = name; size = s.size; count = s.count }
 noted_by s (Size n) = record { from = s.from; to = s.to; size = n; count = s.count }
 noted_by s (Write offset n place) = record { from = s.from; to = s.to; size = s.size; count = s.count + 1 }
 noted_by s (Zero offset n) = record { from = s.from; to = s.to; size = s.size; count = s.count + 1 }
 noted_by s End = s
 
 abbrev pub runs_by : Side → List (Run PayloadMark) → ℕ → Record → List (Run PayloadMark)
-runs_by side out i (From place n) = out
-runs_by side out i (To place n) = out
+runs_by side out i (From name) = out
+runs_by side out i (To name) = out
 runs_by side out i (Size n) = out
 runs_by side out i (Write offset n place) = slice_set out i (payload_run side offset n place)
 runs_by side out i (Zero offset n) = slice_set out i (zero_run offset n)
@@ -74,8 +72,8 @@ runs_by side out i End = out
 
 -- there is room for a data record
 abbrev pub Room : ℕ → ℕ → Record → Type 0
-Room i n (From place m) = Unit {0}
-Room i n (To place m) = Unit {0}
+Room i n (From name) = Unit {0}
+Room i n (To name) = Unit {0}
 Room i n (Size m) = Unit {0}
 Room i n (Write offset m place) = i < n
 Room i n (Zero offset m) = i < n

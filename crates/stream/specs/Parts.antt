@@ -4,11 +4,11 @@ use Rattle.std.specs.Option.{option_map}
 use Rattle.fault.specs.declared.kinds.Fault.{Fault}
 use Rattle.overlay.specs.declared.runs.Run.{Run}
 use Rattle.overlay.specs.declared.ranges.RangeMark.{RangeMark}
-use Rattle.overlay.specs.declared.ranges.RangeMark.TheVariants as range
 use Rattle.overlay.specs.declared.payloads.PayloadMark.{PayloadMark}
 use Rattle.overlay.specs.declared.payloads.PayloadMark.TheVariants.{Zeroed, Written}
 use Rattle.overlay.specs.declared.payloads.Side.{Side}
 use Rattle.overlay.specs.Marks.{payload_moves, range_moves, range_alike}
+pub use Rattle.overlay.specs.Marks.{range_of}
 use Rattle.overlay.specs.Payloads.{stream_of}
 use Rattle.overlay.specs.Runs.{painted, Rising, remarked, runs_from}
 use Rattle.stream.specs.Records.{Content}
@@ -18,11 +18,6 @@ use Rattle.stream.specs.Meaning.{Cell, zeroed, written, cells}
 abbrev pub cell_of : List ℕ → List ℕ → PayloadMark → Cell
 cell_of earlier later Zeroed = zeroed
 cell_of earlier later (Written side place) = written (slice_index (stream_of earlier later side) place)
-
--- the kind of a mark
-abbrev pub range_of : PayloadMark → RangeMark
-range_of Zeroed = range.Zeroed
-range_of (Written side place) = range.Written
 
 -- the difference of a size that parts of two streams mean
 abbrev pub parts_cells : List ℕ → List ℕ → List (Run PayloadMark) → ℕ → List (Option Cell)

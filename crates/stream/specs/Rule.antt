@@ -1,10 +1,18 @@
--- What a tag may do depends on the reader's state and the tag together: here is each tag's rule over the states. Rests on the reader's state.
+-- What a tag may do depends on the reader's state and the tag together: here are the states, and each tag's rule over them. Rests on faults.
 use Rattle.std.specs.Prelude.{Bool, true, cond, Ok, Err, Result}
-use Rattle.stream.specs.declared.kinds.Seen.{Seen}
-use Rattle.stream.specs.declared.kinds.State.{State}
-use Rattle.stream.specs.declared.kinds.State.TheVariants.{Meta, Data}
 use Rattle.fault.specs.declared.kinds.Cause.{Cause}
 use Rattle.fault.specs.declared.kinds.Cause.TheVariants.{Misplaced, Incomplete}
+
+-- which of the metadata was read: f, t and s
+pub record Seen : Type 0 where
+  pub from : Bool
+  pub to : Bool
+  pub sized : Bool
+
+-- what was read so far: metadata only, or data too
+pub data State : Type 0 where
+  Meta : Seen → State
+  Data : State
 
 -- metadata alone was read: whether f, t and s were
 abbrev pub meta : Bool → Bool → Bool → State

@@ -1,31 +1,110 @@
 -- Where a reader stands, and what a step of it promises. Rests on the checks of one record.
-use Rattle.std.specs.Prelude.{◌≡◌, ℕ, ◌-◌, ◌<◌, ◌≤◌, List, length, drop, IfOk, Result}
-use Rattle.stream.specs.Steps.{Pos, step_of, answer, after, fault_at, err_by, Lies}
+use Rattle.std.specs.Prelude.{◌≡◌, ℕ, ◌+◌, cond, List, length, take, drop, IfOk, Some, None, Ok, Err, Option, Result, nat_lt}
+use Rattle.std.specs.Option.{is_some, unwrap_or}
+use Rattle.stream.specs.Rule.{Seen, State, Meta, Data, late_rule}
+use Rattle.stream.specs.Steps.{Pos, span, name_of, step_of, answer, after, fault_at, err_by}
+use Rattle.stream.specs.Records.{header}
+use Rattle.stream.specs.Verdict.{start, same}
 use Rattle.stream.specs.declared.kinds.Record.{Record}
-use Rattle.fault.specs.declared.kinds.Cause.{Cause}
-use Rattle.fault.specs.declared.kinds.Fault.{Fault}
+use Rattle.stream.specs.declared.kinds.Record.TheVariants.{From, To, Size, Write, Zero, End}
+use Rattle.stream.specs.declared.kinds.Span.{Span}
+use Rattle.stream.specs.declared.kinds.Metadata.{Metadata}
+use Rattle.stream.specs.declared.kinds.Reached.{Reached}
+use Rattle.stream.specs.declared.kinds.State as code
+use Rattle.stream.specs.declared.kinds.State.TheVariants as states
 use Rattle.stream.specs.declared.kinds.Reader.{Reader}
+use Rattle.fault.specs.Fault.{then, fault}
+use Rattle.fault.specs.declared.kinds.Cause.{Cause}
+use Rattle.fault.specs.declared.kinds.Cause.TheVariants as causes
+use Rattle.fault.specs.declared.kinds.Fault.{Fault}
+
+-- which of the metadata was read
+abbrev pub seen_of : Metadata → Seen
+seen_of m = record { from = m.from; to = m.to; sized = is_some m.size }
+
+-- what a reader's state says: what was read, the image's size (0 before it is read), the end of the last data record and how many there were
+abbrev pub state_of : code.State → State
+state_of (states.Meta m) = Meta (seen_of m)
+state_of (states.Data d) = Data
+
+abbrev pub size_of_state : code.State → ℕ
+size_of_state (states.Meta m) = unwrap_or m.size 0
+size_of_state (states.Data d) = d.size
+
+abbrev pub end_of_state : code.State → ℕ
+end_of_state (states.Meta m) = 0
+end_of_state (states.Data d) = d.end
+
+abbrev pub count_of_state : code.State → ℕ
+count_of_state (states.Meta m) = 0
+count_of_state (states.Data d) = d.count
+
+-- where a reader in a state stands at a place
+abbrev pub pos_at : ℕ → code.State → Pos
+pos_at place s = record { place = place; state = state_of s; size = size_of_state s; end = end_of_state s; count = count_of_state s }
+
+-- where one stands in metadata, and where in data
+abbrev pub in_meta : ℕ → Metadata → Pos
+in_meta place m = pos_at place (states.Meta m)
+
+abbrev pub in_data : ℕ → Reached → Pos
+in_data place d = pos_at place (states.Data d)
 
 -- where a reader stands, and the bytes from there on
 abbrev pub pos_of : Reader → Pos
-pos_of r = record { place = r.place; state = r.state; size = r.size; end = r.end; count = r.count }
+pos_of r = pos_at r.place r.state
 
 abbrev pub rest_of : Reader → List ℕ
 rest_of r = drop r.place r.bytes.now
 
--- a record was read, or refused: the answer and where the reader then stands are those of the step; the bytes are the same; what was read lies
--- behind the old place and within the bytes. `left` is how many bytes there were from the old place on
-pub record Took (old new : Reader) (left : ℕ) (o : Result (Record × Pos) Cause) (r : Result Record Cause) : Type 0 where
+-- how far data records reached in a state, where they may come
+abbrev pub reached_of : code.State → Result Reached Cause
+reached_of s = then (late_rule (state_of s)) (λ _. Ok (record { size = size_of_state s; end = end_of_state s; count = count_of_state s }))
+
+-- a name as it lies at a place, and where the reader then stands, in metadata that follows
+abbrev pub name_step : ℕ → List ℕ → Metadata → Result (Span × Pos) Cause
+name_step place rest m = then (name_of rest) (λ n. Ok (span (place + 5) n, in_meta (place + 5 + n) m))
+
+-- a reader behind the header of a stream, or the fault of a stream without one
+abbrev pub opened : Result Reader Fault → Result Pos Fault
+opened (Ok r) = Ok (pos_of r)
+opened (Err f) = Err f
+
+pub record Opened (xs : List ℕ) (r : Result Reader Fault) : Type 0 where
+  pub result : opened r ≡ cond (same (take 12 xs) header) (Ok start) (Err (fault causes.Header 0))
+  pub bytes : IfOk r (λ x. x.bytes.now ≡ xs)
+
+-- something was read, or refused: the answer and where the reader then stands are those of the step; the bytes are the same
+pub record Took {A : Type 0} (old new : Reader) (o : Result (A × Pos) Cause) (r : Result A Cause) : Type 0 where
   pub result : r ≡ answer o
   pub stands : pos_of new ≡ after (pos_of old) o
   pub bytes : new.bytes ≡ old.bytes
-  pub onward : IfOk r (λ _. (old.place < new.place) × (new.place ≤ length old.bytes.now))
-  pub lies : IfOk r (λ x. Lies (pos_of old) left x (pos_of new))
 
--- the same with the fault in place of the cause
+-- the same of a record with the fault in place of the cause
 pub record Stepped (old new : Reader) (r : Result Record Fault) : Type 0 where
   pub result : r ≡ err_by (fault_at (length old.bytes.now) old.place) (answer (step_of (pos_of old) (rest_of old)))
   pub stands : pos_of new ≡ after (pos_of old) (step_of (pos_of old) (rest_of old))
   pub bytes : new.bytes ≡ old.bytes
-  pub onward : IfOk r (λ _. (old.place < new.place) × (new.place ≤ length old.bytes.now))
-  pub lies : IfOk r (λ x. Lies (pos_of old) (length old.bytes.now - old.place) x (pos_of new))
+
+-- nothing stands behind the end, in a stream of `total` bytes
+abbrev pub finished : ℕ → ℕ → Result (Unit {0}) Fault
+finished total place = cond (nat_lt place total) (Err (fault causes.Trailing place)) (Ok tt)
+
+-- a record that is not the end, or none at the end
+abbrev pub unended : ℕ → Record → Pos → Result (Option Record) Fault
+unended total (From s) q = Ok (Some (From s))
+unended total (To s) q = Ok (Some (To s))
+unended total (Size n) q = Ok (Some (Size n))
+unended total (Write offset n place) q = Ok (Some (Write offset n place))
+unended total (Zero offset n) q = Ok (Some (Zero offset n))
+unended total End q = then (finished total q.place) (λ _. Ok None)
+
+abbrev pub next_of : ℕ → ℕ → Result (Record × Pos) Cause → Result (Option Record) Fault
+next_of total place (Ok s) = unended total s.0 s.1
+next_of total place (Err c) = Err (fault_at total place c)
+
+-- the next record was read, or there was none, or the stream was refused
+pub record Turned (old new : Reader) (r : Result (Option Record) Fault) : Type 0 where
+  pub result : r ≡ next_of (length old.bytes.now) old.place (step_of (pos_of old) (rest_of old))
+  pub stands : pos_of new ≡ after (pos_of old) (step_of (pos_of old) (rest_of old))
+  pub bytes : new.bytes ≡ old.bytes

@@ -1,7 +1,7 @@
 use Rattle.std.specs.Prelude.{◌≡◌, ℕ, ◌+◌, ◌^◌, ◌<◌, ◌≤◌, Bool, true, cond, ◌&&◌, List, [], ◌∷◌, length, Ok, Err, Result, ◌==◌, nat_le, nat_lt, slice_index}
 use Rattle.stream.specs.Bytes.{le, field}
-use Rattle.stream.specs.Rule.{from_rule, to_rule, size_rule, late_rule}
-use Rattle.stream.specs.declared.kinds.State.{State}
+use Rattle.stream.specs.Rule.{State, from_rule, to_rule, size_rule, late_rule}
+use Rattle.stream.specs.declared.kinds.Span.{Span}
 use Rattle.stream.specs.declared.kinds.Record.{Record}
 use Rattle.stream.specs.declared.kinds.Record.TheVariants.{From, To, Size, Write, Zero, End}
 use Rattle.fault.specs.Fault.{then, fault, cause_number}
@@ -63,12 +63,16 @@ abbrev pub payload_of : Pos → List ℕ → Result (ℕ × ℕ) Cause
 payload_of p rest =
     then (range_of p rest) (λ q. cond (nat_lt (length rest) (17 + q.1)) (Err causes.Cut) (Ok q))
 
+-- a name's part of a stream
+abbrev pub span : ℕ → ℕ → Span
+span place n = record { place = place; length = n }
+
 -- one record of each tag, where the state that follows is known: what it is and where the reader then stands, or the first cause that applies
 abbrev pub from_step : Pos → List ℕ → State → Result (Record × Pos) Cause
-from_step p rest s = then (name_of rest) (λ n. Ok (From (p.place + 5) n, record { place = p.place + 5 + n; state = s; size = p.size; end = p.end; count = p.count }))
+from_step p rest s = then (name_of rest) (λ n. Ok (From (span (p.place + 5) n), record { place = p.place + 5 + n; state = s; size = p.size; end = p.end; count = p.count }))
 
 abbrev pub to_step : Pos → List ℕ → State → Result (Record × Pos) Cause
-to_step p rest s = then (name_of rest) (λ n. Ok (To (p.place + 5) n, record { place = p.place + 5 + n; state = s; size = p.size; end = p.end; count = p.count }))
+to_step p rest s = then (name_of rest) (λ n. Ok (To (span (p.place + 5) n), record { place = p.place + 5 + n; state = s; size = p.size; end = p.end; count = p.count }))
 
 abbrev pub size_step : Pos → List ℕ → State → Result (Record × Pos) Cause
 size_step p rest s = then (size_of rest) (λ n. Ok (Size n, record { place = p.place + 9; state = s; size = n; end = p.end; count = p.count }))
@@ -98,11 +102,11 @@ abbrev pub step_of : Pos → List ℕ → Result (Record × Pos) Cause
 step_of p rest = cond (nat_lt 0 (length rest)) (record_of p rest (slice_index rest 0)) (Err causes.Cut)
 
 -- the answer of a step, and where the reader stands after it
-abbrev pub answer : Result (Record × Pos) Cause → Result Record Cause
+abbrev pub answer : {A : Type 0} → Result (A × Pos) Cause → Result A Cause
 answer (Ok q) = Ok q.0
 answer (Err c) = Err c
 
-abbrev pub after : Pos → Result (Record × Pos) Cause → Pos
+abbrev pub after : {A : Type 0} → Pos → Result (A × Pos) Cause → Pos
 after p (Ok q) = q.1
 after p (Err c) = p
 
@@ -117,8 +121,8 @@ err_by g (Err c) = Err (g c)
 
 -- how a record that was read lies in the bytes that were left, and what it counts
 abbrev pub Lies : Pos → ℕ → Record → Pos → Type 0
-Lies p left (From place n) q = (place ≡ p.place + 5) × (5 + n ≤ left) × (q.place ≡ p.place + 5 + n) × (q.count ≡ p.count)
-Lies p left (To place n) q = (place ≡ p.place + 5) × (5 + n ≤ left) × (q.place ≡ p.place + 5 + n) × (q.count ≡ p.count)
+Lies p left (From s) q = (s.place ≡ p.place + 5) × (5 + s.length ≤ left) × (q.place ≡ p.place + 5 + s.length) × (q.count ≡ p.count)
+Lies p left (To s) q = (s.place ≡ p.place + 5) × (5 + s.length ≤ left) × (q.place ≡ p.place + 5 + s.length) × (q.count ≡ p.count)
 Lies p left (Size n) q = (q.place ≡ p.place + 9) × (q.count ≡ p.count)
 Lies p left (Write offset n place) q = (place ≡ p.place + 17) × (17 + n ≤ left) × (q.place ≡ p.place + 17 + n) × (q.count ≡ p.count + 1) × (p.count < 512)
 Lies p left (Zero offset n) q = (q.place ≡ p.place + 17) × (q.count ≡ p.count + 1) × (p.count < 512)

@@ -18,8 +18,8 @@ before c (Err f) = Err f
 
 -- what a record that was read comes to, with what follows it
 abbrev pub taken : Result (List Content) Fault → ℕ → List ℕ → Record → Pos → Result (List Content) Fault
-taken follow total rest (From place n) q = before (from_name (field rest 5 n)) follow
-taken follow total rest (To place n) q = before (to_name (field rest 5 n)) follow
+taken follow total rest (From s) q = before (from_name (field rest 5 s.length)) follow
+taken follow total rest (To s) q = before (to_name (field rest 5 s.length)) follow
 taken follow total rest (Size n) q = before (image_size n) follow
 taken follow total rest (Write offset n place) q = before (data_at offset (field rest 17 n)) follow
 taken follow total rest (Zero offset n) q = before (zeros_at offset n) follow

@@ -1,11 +1,9 @@
 use Rattle.std.specs.Prelude.{◌≡◌, ℕ, ◌+◌, ◌^◌, ◌<◌, ◌≤◌, true, ◌⊎◌, List, [], ◌∷◌, ◌++◌, length, take, Ok, Err, Result, ◌≢◌}
 use Rattle.std.specs.List.{AllByRecursion}
-use Rattle.stream.specs.Rule.{from_rule, to_rule, size_rule, late_rule}
+use Rattle.stream.specs.Rule.{State, Data, from_rule, to_rule, size_rule, late_rule}
 use Rattle.stream.specs.Steps.{Pos, every_printable, step_of, fault_at}
 use Rattle.stream.specs.Records.{Content, from_name, to_name, image_size, data_at, zeros_at, encodings, encoded_stream, header}
 use Rattle.stream.specs.Verdict.{start, verdict}
-use Rattle.stream.specs.declared.kinds.State.{State}
-use Rattle.stream.specs.declared.kinds.State.TheVariants.{Data}
 use Rattle.fault.specs.Fault.{fault}
 use Rattle.fault.specs.declared.kinds.Cause.{Cause}
 use Rattle.fault.specs.declared.kinds.Cause.TheVariants as causes

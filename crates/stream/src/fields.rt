@@ -1,47 +1,33 @@
-ghost use Rattle.std.specs.Prelude.{◌≡◌, ◌+◌, ◌-◌, ◌≤◌, length, drop};
-ghost use Rattle.stream.specs.Bytes.{le, field};
+ghost use Rattle.std.specs.Prelude.{◌≡◌, ◌+◌, cond, length, Ok, Err, nat_lt};
+ghost use Rattle.std.specs.Char.{is_ascii_graphic};
+ghost use Rattle.std.specs.List.{list_all};
+ghost use Rattle.stream.specs.Bytes.{field};
 ghost use Rattle.stream.specs.Steps.{every_printable, name_of, size_of};
+ghost use Rattle.fault.specs.declared.kinds.Cause.TheVariants.{Cut};
 
+use crate::kinds::{LARGEST_SIZE, LONGEST_NAME};
 use fault::Cause;
 
-// The number in the four bytes from `at` on.
-fn u32_at(s: &[u8], at: usize) -> u32
-    requires { at + 4 ≤ length s.now }
-    ensures { result ≡ le (field s.now at 4) }
+// The N bytes from `at` on, which have to be there.
+pub(crate) fn array_at<const N: usize>(bytes: &[u8], at: usize) -> Result<[u8; N], Cause>
+    ensures { result ≡ cond (nat_lt (length bytes.now) (at + N)) (Err Cut) (Ok (field bytes.now at N)) }
 {
-    u32::from_le_bytes([s[at], s[at + 1], s[at + 2], s[at + 3]])
+    let Some(tail) = bytes.get(at..) else {
+        return Err(Cause::Cut);
+    };
+    let chunk = tail.first_chunk().ok_or(Cause::Cut)?;
+    Ok(*chunk)
 }
 
-// The number in the eight bytes from `at` on.
-pub(crate) fn u64_at(s: &[u8], at: usize) -> u64
-    requires { at + 8 ≤ length s.now }
-    ensures { result ≡ le (field s.now at 8) }
-{
-    u64::from_le_bytes([
-        s[at],
-        s[at + 1],
-        s[at + 2],
-        s[at + 3],
-        s[at + 4],
-        s[at + 5],
-        s[at + 6],
-        s[at + 7],
-    ])
-}
-
-// Whether each byte of a name is from 33 to 126.
+// Whether each byte of a name is graphic in ASCII, from 33 to 126.
 fn all_printable(name: &[u8]) -> bool
-    ensures { result ≡ every_printable name.now }
+    ensures { result ≡ list_all is_ascii_graphic name.now }
 {
-    for b in name {
-        if *b < 33 || *b > 126 {
-            return false;
-        }
-    }
-    true
+    name.iter().all(|byte| byte.is_ascii_graphic())
 }
 
 // Whether each byte is one that a name may have: 33 to 126.
+#[tactic(auto, using(crate::proofs::Graphic::printable_is))]
 pub fn printable(name: &[u8]) -> bool
     ensures { result ≡ every_printable name.now }
 {
@@ -52,11 +38,8 @@ pub fn printable(name: &[u8]) -> bool
 pub(crate) fn name_length(rest: &[u8]) -> Result<usize, Cause>
     ensures { result ≡ name_of rest.now }
 {
-    if rest.len() < 5 {
-        return Err(Cause::Cut);
-    }
-    let length = u32_at(rest, 1) as usize;
-    if length == 0 || length > 64 {
+    let length = u32::from_le_bytes(array_at(rest, 1)?) as usize;
+    if length == 0 || length > LONGEST_NAME {
         return Err(Cause::BadName);
     }
     if rest.len() < 5 + length {
@@ -72,23 +55,9 @@ pub(crate) fn name_length(rest: &[u8]) -> Result<usize, Cause>
 pub(crate) fn size_in(rest: &[u8]) -> Result<u64, Cause>
     ensures { result ≡ size_of rest.now }
 {
-    if rest.len() < 9 {
-        return Err(Cause::Cut);
-    }
-    let size = u64_at(rest, 1);
-    if size > 1 << 40 {
+    let size = u64::from_le_bytes(array_at(rest, 1)?);
+    if size > LARGEST_SIZE {
         return Err(Cause::TooLarge);
     }
     Ok(size)
-}
-
-// The bytes of the stream from a place on; none past its end.
-pub(crate) fn from_place(bytes: &[u8], place: usize) -> &[u8]
-    ensures rest { result.now ≡ drop place bytes.now }
-    ensures left { length result.now ≡ length bytes.now - place }
-{
-    if place > bytes.len() {
-        return &bytes[bytes.len()..];
-    }
-    &bytes[place..]
 }

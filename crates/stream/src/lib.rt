@@ -1,16 +1,14 @@
 // Streams: reading, checking, and what a stream is and means.
 #![tactic(auto)]
 
-ghost use Rattle.std.specs.Prelude.{◌≡◌, suc, length, take};
+ghost use Rattle.std.specs.Prelude.{◌≡◌};
 ghost use Rattle.stream.specs.Places.{PlacesTell};
-ghost use Rattle.stream.specs.Stands.{pos_of, rest_of};
-ghost use Rattle.stream.specs.Records.{header};
-ghost use Rattle.stream.specs.Verdict.{reads, checked, verdict, same};
+ghost use Rattle.stream.specs.Verdict.{checked, verdict};
 ghost use Rattle.stream.specs.Sound.{AcceptedExactly, Exact, SoundExactly};
 ghost use Rattle.stream.specs.Wellformed.{ReadsBack, AcceptedIsStream, RefusedExactly};
 
-use crate::kinds::{Reader, Record, Seen, State};
-use fault::{Cause, Fault};
+use crate::kinds::Reader;
+use fault::Fault;
 
 mod fields;
 mod kinds;
@@ -19,53 +17,19 @@ mod reader;
 mod reading;
 
 pub use fields::printable;
-pub use kinds::{MOST_RANGES, MOST_RECORDS, Parts, Ranges, Span, Summary};
+pub use kinds::{
+    HEADER, LARGEST_SIZE, LONGEST_NAME, MOST_RANGES, MOST_RECORDS, Parts, Ranges, Span, Summary,
+};
 pub use ranges::{find_ranges, mark_ranges, read_ranges};
 pub use reading::read;
-
-// Reads on to the end of the stream.
-fn run(reader: &mut Reader) -> Result<(), Fault>
-    ensures { result ≡ checked (reads (suc (length reader.old.bytes.now)) (length reader.old.bytes.now) (pos_of reader.old) (rest_of reader.old)) }
-{
-    'records: loop {
-        if let Record::End = reader.step()? {
-            break;
-        }
-    }
-    if reader.place < reader.bytes.len() {
-        return Err(Fault::new(Cause::Trailing, reader.place as u64));
-    }
-    Ok(())
-}
-
-const HEADER: &[u8] = b"rbd diff v1\n";
-
-fn has_header(stream: &[u8]) -> bool
-    ensures { result ≡ same (take 12 stream.now) header }
-{
-    stream.len() >= 12 && &stream[0..12] == HEADER
-}
 
 // Yes, or the fault of a stream.
 fn examine(stream: &[u8]) -> Result<(), Fault>
     ensures { result ≡ checked (verdict stream.now) }
 {
-    if !has_header(stream) {
-        return Err(Fault::new(Cause::Header, 0));
-    }
-    let mut reader = Reader {
-        bytes: stream,
-        place: 12,
-        state: State::Meta(Seen {
-            from: false,
-            to: false,
-            sized: false,
-        }),
-        size: 0,
-        end: 0,
-        count: 0,
-    };
-    run(&mut reader)
+    let mut reader = Reader::open(stream)?;
+    while let Some(_) = reader.next()? {}
+    Ok(())
 }
 
 // The same, with what that means for the bytes as a whole.
@@ -90,13 +54,11 @@ pub fn check(stream: &[u8]) -> Result<(), Fault>
 // stream is refused with a fault exactly if good records stand before its place and the fault is the
 // first that applies there. Sound: well formed, record by record, is at most one f, one t and one s in
 // any order and then at most 512 data records, rising and inside the size.
-pub fn laws_of_reading() -> u8
+pub fn laws_of_reading()
     ensures reads_back { ReadsBack }
     ensures is_stream { AcceptedIsStream }
     ensures accepted { AcceptedExactly }
     ensures refused { RefusedExactly }
     ensures sound { SoundExactly }
     ensures places_tell { PlacesTell }
-{
-    0
-}
+{}

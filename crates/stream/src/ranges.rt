@@ -1,22 +1,13 @@
 ghost use Rattle.std.specs.Prelude.{◌≡◌, ◌≤◌, map, length, take, drop, IfOk};
-ghost use Rattle.overlay.specs.Runs.{remarked, Rising};
-ghost use Rattle.stream.specs.Parts.{range_of, part_ranges, counted_ranges};
+ghost use Rattle.overlay.specs.Marks.{range_of};
+ghost use Rattle.overlay.specs.Runs.{remarked};
+ghost use Rattle.stream.specs.Parts.{part_ranges, counted_ranges};
 ghost use Rattle.stream.specs.Told.{stream_ranges};
 
 use crate::kinds::{MOST_RECORDS, Ranges};
 use crate::reading::read;
 use fault::Fault;
-use overlay::{PayloadMark, RangeMark, Run, Side, overlay};
-
-// The kind of a payload mark.
-fn kind_of(mark: PayloadMark) -> RangeMark
-    ensures { result ≡ range_of mark }
-{
-    match mark {
-        PayloadMark::Zeroed => RangeMark::Zeroed,
-        PayloadMark::Written(_, _) => RangeMark::Written,
-    }
-}
+use overlay::{PayloadMark, RangeMark, Run, Sheet, Side, overlay};
 
 // Puts runs by their kind alone to the front of `out`.
 fn put_kinds(parts: &[Run<PayloadMark>], out: &mut [Run<RangeMark>])
@@ -24,11 +15,12 @@ fn put_kinds(parts: &[Run<PayloadMark>], out: &mut [Run<RangeMark>])
     ensures kinds { take (length parts.now) out.new ≡ map (remarked range_of) parts.now }
     ensures behind { drop (length parts.now) out.new ≡ drop (length parts.now) out.old }
 {
+    // By index: of what an adapter of `iter_mut` wrote, nothing is known after the loop.
     for (i, part) in parts.iter().enumerate() {
         out[i] = Run {
             offset: part.offset,
             length: part.length,
-            mark: kind_of(part.mark),
+            mark: part.mark.into(),
         };
     }
 }
@@ -44,35 +36,32 @@ pub fn mark_ranges(parts: &[Run<PayloadMark>], out: &mut [Run<RangeMark>])
 
 // Puts the ranges of one stream's runs to the front of `out`, and counts them: the overlay of its runs
 // over nothing.
-fn overlay_nothing(parts: &[Run<PayloadMark>], size: u64, out: &mut Ranges) -> usize
-    requires rising { Rising 0 parts.now size }
-    requires few { length parts.now ≤ 512 }
+fn overlay_nothing(sheet: Sheet<PayloadMark>, out: &mut Ranges) -> usize
+    requires { length sheet.runs.now ≤ 512 }
     ensures within { result ≤ 1026 }
-    ensures ranges { take result out.new ≡ part_ranges parts.now size }
+    ensures ranges { take result out.new ≡ part_ranges sheet.entry.runs.now sheet.entry.size }
     ensures behind { drop result out.new ≡ drop result out.old }
 {
-    let mut bounds = [Run {
-        offset: 0,
-        length: 0,
-        mark: RangeMark::Zeroed,
-    }; MOST_RECORDS];
-    put_kinds(parts, &mut bounds);
-    match overlay(&[], size, &bounds[0..parts.len()], size, out) {
-        Some(count) => count,
-        None => unreachable(),
-    }
+    let size = sheet.size;
+    let mut bounds = [Run::<RangeMark>::NONE; MOST_RECORDS];
+    put_kinds(sheet.runs, &mut bounds);
+    let nothing = Sheet { runs: &[], size };
+    let ranges = Sheet {
+        runs: &bounds[..sheet.runs.len()],
+        size,
+    };
+    overlay(nothing, ranges, out).unwrap()
 }
 
 // Puts the ranges of one stream's runs to the front of `out`, and counts them: the overlay of its runs
 // over nothing. What lies behind them stays.
-pub fn find_ranges(parts: &[Run<PayloadMark>], size: u64, out: &mut Ranges) -> usize
-    requires rising { Rising 0 parts.now size }
-    requires few { length parts.now ≤ 512 }
+pub fn find_ranges(sheet: Sheet<PayloadMark>, out: &mut Ranges) -> usize
+    requires { length sheet.runs.now ≤ 512 }
     ensures within { result ≤ 1026 }
-    ensures ranges { take result out.new ≡ part_ranges parts.now size }
+    ensures ranges { take result out.new ≡ part_ranges sheet.entry.runs.now sheet.entry.size }
     ensures behind { drop result out.new ≡ drop result out.old }
 {
-    overlay_nothing(parts, size, out)
+    overlay_nothing(sheet, out)
 }
 
 // Puts the ranges of a stream to the front of `out`, and counts them.
@@ -80,14 +69,13 @@ fn ranges_in(stream: &[u8], out: &mut Ranges) -> Result<usize, Fault>
     ensures within { IfOk result (λ k. k ≤ 1026) }
     ensures read { counted_ranges result out.new ≡ stream_ranges stream.now }
 {
-    let mut parts = [Run {
-        offset: 0,
-        length: 0,
-        mark: PayloadMark::Zeroed,
-    }; MOST_RECORDS];
+    let mut parts = [Run::<PayloadMark>::NONE; MOST_RECORDS];
     let summary = read(stream, Side::Later, &mut parts)?;
-    let count = summary.count;
-    Ok(overlay_nothing(&parts[0..count], summary.size, out))
+    let sheet = Sheet {
+        runs: &parts[..summary.count],
+        size: summary.size,
+    };
+    Ok(overlay_nothing(sheet, out))
 }
 
 // Puts the ranges of a stream to the front of `out`, and counts them.

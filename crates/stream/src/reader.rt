@@ -1,95 +1,158 @@
-ghost use Rattle.std.specs.Prelude.{◌≡◌, ◌-◌, length};
-ghost use Rattle.stream.specs.Steps.{range_of, payload_of, step_of, from_step, to_step, size_step, data_step, zeros_step, fault_at};
-ghost use Rattle.stream.specs.Rule.{seen_from, seen_to, seen_size};
-ghost use Rattle.stream.specs.Stands.{pos_of, Took, Stepped};
+ghost use Rattle.std.specs.Prelude.{◌≡◌, ◌+◌, ◌-◌, ◌^◌, ◌<◌, ◌≤◌, length, Ok, IfOk};
+ghost use Rattle.stream.specs.Rule.{seen_from, seen_to, seen_size, Data};
+ghost use Rattle.stream.specs.Steps.{range_of, payload_of, step_of, from_step, to_step, size_step, data_step, zeros_step, end_step, fault_at};
+ghost use Rattle.stream.specs.Stands.{seen_of, in_meta, in_data, pos_of, rest_of, reached_of, name_step, Took, Opened, finished, Stepped, Turned};
 
-use crate::fields::{from_place, name_length, size_in, u64_at};
-use crate::kinds::{Reader, Record, Seen, State};
+use crate::fields::{array_at, name_length, size_in};
+use crate::kinds::{HEADER, MOST_RECORDS, Metadata, Reached, Reader, Record, Span, State};
 use fault::{Cause, Fault};
 
-impl<'a> Reader<'a> {
-    // The offset and the length of the data record that begins `rest`.
-    fn range(&self, rest: &[u8]) -> Result<(u64, u64), Cause>
-        ensures { result ≡ range_of (pos_of self.now) rest.now }
+impl State {
+    // How far data records reached, where they may come: behind the metadata once that is whole.
+    fn reached(self) -> Result<Reached, Cause>
+        ensures { result ≡ reached_of self }
     {
-        if self.count >= 512 {
+        match self {
+            State::Data(reached) => Ok(reached),
+            State::Meta(
+                Metadata {
+                    to: true,
+                    size: Some(size),
+                    ..
+                },
+            ) => Ok(Reached {
+                size,
+                end: 0,
+                count: 0,
+            }),
+            State::Meta(_) => Err(Cause::Incomplete),
+        }
+    }
+}
+
+impl Reached {
+    // The same with one more data record.
+    fn past(self, offset: u64, length: u64) -> Reached
+        requires { (offset + «length» < 2 ^ 64) × (self.count < 512) }
+        ensures { result ≡ record self { end = offset + «length»; count = self.count + 1 } }
+    {
+        Reached {
+            end: offset + length,
+            count: self.count + 1,
+            ..self
+        }
+    }
+}
+
+impl<'a> Reader<'a> {
+    // A reader behind the header of a stream.
+    pub(crate) fn open(bytes: &'a [u8]) -> Result<Reader<'a>, Fault>
+        ensures { Opened bytes.now result }
+    {
+        if !bytes.starts_with(HEADER) {
+            return Err(Fault::new(Cause::Header, 0));
+        }
+        Ok(Reader {
+            bytes,
+            place: HEADER.len(),
+            state: State::Meta(Metadata {
+                from: false,
+                to: false,
+                size: None,
+            }),
+        })
+    }
+
+    // The bytes from the next record on.
+    fn rest(&self) -> &'a [u8]
+        ensures { result.now ≡ rest_of self.now }
+    {
+        &self.bytes[self.place..]
+    }
+
+    // The offset and the length of the next record, as one of data.
+    fn range(&self, reached: Reached) -> Result<(u64, u64), Cause>
+        ensures { result ≡ range_of (in_data self.now.place reached) (rest_of self.now) }
+    {
+        if reached.count >= MOST_RECORDS {
             return Err(Cause::TooManyRecords);
         }
-        if rest.len() < 17 {
-            return Err(Cause::Cut);
-        }
-        let offset = u64_at(rest, 1);
-        let length = u64_at(rest, 9);
-        if length == 0 || offset > self.size || length > self.size - offset {
+        let offset = u64::from_le_bytes(array_at(self.rest(), 1)?);
+        let length = u64::from_le_bytes(array_at(self.rest(), 9)?);
+        if length == 0 || offset > reached.size || length > reached.size - offset {
             return Err(Cause::BadRange);
         }
-        if offset < self.end {
+        if offset < reached.end {
             return Err(Cause::Overlap);
         }
         Ok((offset, length))
     }
 
     // The same of a record with payload, which has to be there.
-    fn payload(&self, rest: &[u8]) -> Result<(u64, u64), Cause>
-        ensures { result ≡ payload_of (pos_of self.now) rest.now }
+    fn payload(&self, reached: Reached) -> Result<(u64, u64), Cause>
+        ensures { result ≡ payload_of (in_data self.now.place reached) (rest_of self.now) }
     {
-        let (offset, length) = self.range(rest)?;
-        if ((rest.len() - 17) as u64) < length {
+        let (offset, length) = self.range(reached)?;
+        if ((self.rest().len() - 17) as u64) < length {
             return Err(Cause::Cut);
         }
         Ok((offset, length))
     }
 
-    // Reads the from name at the front of `rest`, where `seen` was read before it.
-    fn take_from(&mut self, seen: Seen, rest: &[u8]) -> Result<Record, Cause>
-        requires { length rest.now ≡ length self.old.bytes.now - self.old.place }
-        ensures { Took self.old self.new (length rest.now) (from_step (pos_of self.old) rest.now (seen_from seen)) result }
+    // Steps over the name of the next record, to the metadata that was then read.
+    fn take_name(&mut self, metadata: Metadata) -> Result<Span, Cause>
+        ensures { Took self.old self.new (name_step self.old.place (rest_of self.old) metadata) result }
     {
-        let length = name_length(rest)?;
+        let length = name_length(self.rest())?;
         let place = self.place + 5;
         self.place = place + length;
-        self.state = State::Meta(Seen { from: true, ..seen });
-        Ok(Record::From { place, length })
+        self.state = State::Meta(metadata);
+        Ok(Span { place, length })
     }
 
-    // Reads the to name at the front of `rest`.
-    fn take_to(&mut self, seen: Seen, rest: &[u8]) -> Result<Record, Cause>
-        requires { length rest.now ≡ length self.old.bytes.now - self.old.place }
-        ensures { Took self.old self.new (length rest.now) (to_step (pos_of self.old) rest.now (seen_to seen)) result }
+    // Reads the from name, behind metadata that was read.
+    fn take_from(&mut self, metadata: Metadata) -> Result<Record, Cause>
+        ensures { Took self.old self.new (from_step (in_meta self.old.place metadata) (rest_of self.old) (seen_from (seen_of metadata))) result }
     {
-        let length = name_length(rest)?;
-        let place = self.place + 5;
-        self.place = place + length;
-        self.state = State::Meta(Seen { to: true, ..seen });
-        Ok(Record::To { place, length })
+        let span = self.take_name(Metadata {
+            from: true,
+            ..metadata
+        })?;
+        Ok(Record::From(span))
     }
 
-    // Reads the size at the front of `rest`.
-    fn take_size(&mut self, seen: Seen, rest: &[u8]) -> Result<Record, Cause>
-        requires { length rest.now ≡ length self.old.bytes.now - self.old.place }
-        ensures { Took self.old self.new (length rest.now) (size_step (pos_of self.old) rest.now (seen_size seen)) result }
+    // Reads the to name.
+    fn take_to(&mut self, metadata: Metadata) -> Result<Record, Cause>
+        ensures { Took self.old self.new (to_step (in_meta self.old.place metadata) (rest_of self.old) (seen_to (seen_of metadata))) result }
     {
-        let size = size_in(rest)?;
+        let span = self.take_name(Metadata {
+            to: true,
+            ..metadata
+        })?;
+        Ok(Record::To(span))
+    }
+
+    // Reads the size.
+    fn take_size(&mut self, metadata: Metadata) -> Result<Record, Cause>
+        ensures { Took self.old self.new (size_step (in_meta self.old.place metadata) (rest_of self.old) (seen_size (seen_of metadata))) result }
+    {
+        let size = size_in(self.rest())?;
         self.place += 9;
-        self.state = State::Meta(Seen {
-            sized: true,
-            ..seen
+        self.state = State::Meta(Metadata {
+            size: Some(size),
+            ..metadata
         });
-        self.size = size;
         Ok(Record::Size(size))
     }
 
-    // Reads the written range at the front of `rest`.
-    fn take_data(&mut self, rest: &[u8]) -> Result<Record, Cause>
-        requires { length rest.now ≡ length self.old.bytes.now - self.old.place }
-        ensures { Took self.old self.new (length rest.now) (data_step (pos_of self.old) rest.now State.Data) result }
+    // Reads a written range, behind data records that reached so far.
+    fn take_data(&mut self, reached: Reached) -> Result<Record, Cause>
+        ensures { Took self.old self.new (data_step (in_data self.old.place reached) (rest_of self.old) Data) result }
     {
-        let (offset, length) = self.payload(rest)?;
+        let (offset, length) = self.payload(reached)?;
         let place = self.place + 17;
         self.place = place + length as usize;
-        self.state = State::Data;
-        self.end = offset + length;
-        self.count += 1;
+        self.state = State::Data(reached.past(offset, length));
         Ok(Record::Write {
             offset,
             length,
@@ -97,59 +160,75 @@ impl<'a> Reader<'a> {
         })
     }
 
-    // Reads the range of zeros at the front of `rest`.
-    fn take_zeros(&mut self, rest: &[u8]) -> Result<Record, Cause>
-        requires { length rest.now ≡ length self.old.bytes.now - self.old.place }
-        ensures { Took self.old self.new (length rest.now) (zeros_step (pos_of self.old) rest.now State.Data) result }
+    // Reads a range of zeros.
+    fn take_zeros(&mut self, reached: Reached) -> Result<Record, Cause>
+        ensures { Took self.old self.new (zeros_step (in_data self.old.place reached) (rest_of self.old) Data) result }
     {
-        let (offset, length) = self.range(rest)?;
+        let (offset, length) = self.range(reached)?;
         self.place += 17;
-        self.state = State::Data;
-        self.end = offset + length;
-        self.count += 1;
+        self.state = State::Data(reached.past(offset, length));
         Ok(Record::Zero { offset, length })
     }
 
-    // The record that begins `rest`: what its tag may do depends on the state and the tag together.
-    // Steps over it; a refusal leaves the reader as it was.
-    fn record(&mut self, rest: &[u8]) -> Result<Record, Cause>
-        requires { length rest.now ≡ length self.old.bytes.now - self.old.place }
-        ensures { Took self.old self.new (length rest.now) (step_of (pos_of self.old) rest.now) result }
+    // Reads the end.
+    fn take_end(&mut self, reached: Reached) -> Record
+        requires { self.old.place < length self.old.bytes.now }
+        ensures { Took self.old self.new (end_step (in_data self.old.place reached) Data) (Ok result) }
     {
-        if rest.len() == 0 {
+        self.place += 1;
+        self.state = State::Data(reached);
+        Record::End
+    }
+
+    // The next record: what its tag may do depends on the state and the tag together. Steps over it;
+    // a refusal leaves the reader as it was.
+    fn record(&mut self) -> Result<Record, Cause>
+        ensures { Took self.old self.new (step_of (pos_of self.old) (rest_of self.old)) result }
+    {
+        let [tag, ..] = self.rest() else {
             return Err(Cause::Cut);
-        }
-        let tag = rest[0];
-        match (self.state, tag) {
-            (State::Meta(seen), b'f') if !seen.from => self.take_from(seen, rest),
-            (State::Meta(seen), b't') if !seen.to => self.take_to(seen, rest),
-            (State::Meta(seen), b's') if !seen.sized => self.take_size(seen, rest),
+        };
+        match (self.state, *tag) {
+            (State::Meta(metadata), b'f') if !metadata.from => self.take_from(metadata),
+            (State::Meta(metadata), b't') if !metadata.to => self.take_to(metadata),
+            (State::Meta(metadata), b's') if metadata.size.is_none() => self.take_size(metadata),
             (_, b'f' | b't' | b's') => Err(Cause::Misplaced),
-            (State::Meta(seen), b'w' | b'z' | b'e') if !seen.to || !seen.sized => {
-                Err(Cause::Incomplete)
-            }
-            (_, b'w') => self.take_data(rest),
-            (_, b'z') => self.take_zeros(rest),
-            (_, b'e') => {
-                self.place += 1;
-                self.state = State::Data;
-                Ok(Record::End)
-            }
+            (state, b'w') => self.take_data(state.reached()?),
+            (state, b'z') => self.take_zeros(state.reached()?),
+            (state, b'e') => Ok(self.take_end(state.reached()?)),
             _ => Err(Cause::UnknownTag),
         }
     }
 
     // Reads the next record and steps over it, or tells the fault.
-    pub(crate) fn step(&mut self) -> Result<Record, Fault>
+    fn step(&mut self) -> Result<Record, Fault>
         ensures { Stepped self.old self.new result }
     {
-        let place = self.place;
-        let total = self.bytes.len();
-        let rest = from_place(self.bytes, place);
-        match self.record(rest) {
-            Ok(record) => Ok(record),
-            Err(cause) => Err(fault_at(total, place, cause)),
+        let (total, place) = (self.bytes.len(), self.place);
+        self.record().map_err(|cause| fault_at(total, place, cause))
+    }
+
+    // Reads the next record and steps over it: none at the end, behind which nothing may stand. This is
+    // no `Iterator`: after a refusal the reader stands where it stood, and would be refused for ever.
+    pub(crate) fn next(&mut self) -> Result<Option<Record>, Fault>
+        ensures { Turned self.old self.new result }
+    {
+        let record = self.step()?;
+        if let Record::End = record {
+            self.finish()?;
+            return Ok(None);
         }
+        Ok(Some(record))
+    }
+
+    // Tells the fault of bytes behind the end.
+    fn finish(&self) -> Result<(), Fault>
+        ensures { result ≡ finished (length self.now.bytes.now) self.now.place }
+    {
+        if self.place < self.bytes.len() {
+            return Err(Fault::new(Cause::Trailing, self.place as u64));
+        }
+        Ok(())
     }
 }
 

@@ -1,20 +1,6 @@
--- Rows that lie end to end: the test for it, the bounds of each row, and the rows after each operation.
-use Rattle.std.proofs.Common.{◌≡◌, ℕ, zero, suc, ◌+◌, ◌-◌, ◌<◌, ◌≤◌, true, eqb, List, [], ◌∷◌, ◌++◌, map, length, get_or, take, drop, sym, ap, subst, arith}
-use Rattle.std.proofs.lemmas.Bool.{eqb-true, eq-eqb, and_parts, and_from}
+-- Rows that lie end to end: the bounds of each row, and the rows after each operation.
+use Rattle.std.proofs.Common.{◌≡◌, ℕ, zero, suc, ◌+◌, ◌-◌, ◌<◌, ◌≤◌, List, [], ◌∷◌, ◌++◌, map, length, get_or, take, drop, sym, ap, subst, arith}
 use Rattle.table.specs.Tables.{Row, end_of, no_row, fill_after, moved, EndToEnd}
-use Rattle.table.specs.Entries.{ends_meet}
-
--- the test says yes exactly if the rows lie end to end
-pub ends_from_test : (a b : ℕ) (rs : List Row) → ends_meet a rs b ≡ true → EndToEnd a rs b
-ends_from_test a b [] h = eqb-true a b h
-ends_from_test a b (r ∷ rs) h =
-    let k = and_parts (eqb r.place a) (ends_meet (end_of r) rs b) h in
-    (eqb-true r.place a k.0, ends_from_test (end_of r) b rs k.1)
-
-pub test_from_ends : (a b : ℕ) (rs : List Row) → EndToEnd a rs b → ends_meet a rs b ≡ true
-test_from_ends a b [] h = eq-eqb a b h
-test_from_ends a b (r ∷ rs) h =
-    and_from (eqb r.place a) (ends_meet (end_of r) rs b) (eq-eqb r.place a h.0) (test_from_ends (end_of r) b rs h.1)
 
 -- where rows end to end lie
 pub ends_le : (a b : ℕ) (rs : List Row) → EndToEnd a rs b → a ≤ b

@@ -1,4 +1,5 @@
 pub mod Ends
-mod Shifts
-pub mod Held
+mod Held
+mod Names
+mod Closed
 mod Steps

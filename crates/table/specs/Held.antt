@@ -1,22 +1,12 @@
 -- The table that an EntryTable holds, and the steps of the operations on it. Rests on the rows of its entries.
-use Rattle.std.specs.Prelude.{◌≡◌, ℕ, ◌+◌, ◌<◌, ◌≤◌, List, [], ◌∷◌, ◌++◌, map, length, take, drop, slice_index_or}
-use Rattle.table.specs.Entries.{row_of, rows_of, no_entry}
+use Rattle.std.specs.Prelude.{ℕ, ◌+◌, List, [], ◌∷◌, ◌++◌, map, take, drop}
+use Rattle.table.specs.Entries.{row_of}
 use Rattle.table.specs.Names.{name_of}
 use Rattle.table.specs.Tables.{Row, Table, end_of, row_at, fill_after, moved}
-use Rattle.table.specs.declared.entry.Entry.{Entry}
-use Rattle.table.specs.declared.table.EntryTable.{EntryTable}
+use Rattle.table.specs.declared.table.EntryTable.TheInside.{Inside}
 
-abbrev pub table_of : EntryTable → Table
-table_of t = record { base = name_of t.base; rows = rows_of t.count t.entries; fill = t.fill }
-
--- what is known of the entries in use: their rows, that each lies within the fill, and that the next one begins where it ends
-pub record Live (t : EntryTable) (es : List Entry) : Type 0 where
-  pub rows : map row_of es ≡ (table_of t).rows
-  pub long : length es ≡ length (table_of t).rows
-  pub used : length es ≡ t.count
-  pub row : (k : ℕ) → k < length es → row_of (slice_index_or es k no_entry) ≡ row_at (table_of t) k
-  pub inside : (k : ℕ) → k < length es → end_of (row_at (table_of t) k) ≤ t.fill
-  pub next : (k : ℕ) → k + 1 < length es → (row_at (table_of t) (k + 1)).place ≡ end_of (row_at (table_of t) k)
+abbrev pub table_of : Inside → Table
+table_of t = record { base = name_of t.base; rows = map row_of t.entries.items; fill = t.fill }
 
 -- a new last row
 abbrev pub append_row : Table → Row → Table

@@ -1,10 +1,6 @@
 -- What a name in a table means: its bytes. Rests on nothing.
-use Rattle.std.specs.Prelude.{ℕ, List, [], take}
+use Rattle.std.specs.Prelude.{ℕ, List, take}
 use Rattle.table.specs.declared.name.Name.{Name}
 
 abbrev pub name_of : Name → List ℕ
 name_of n = take n.length n.bytes
-
--- the empty name
-abbrev pub no_name : Name
-no_name = record { bytes = []; length = 0 }

@@ -1,3 +1,4 @@
+// The table of a shelf: where each of its entries lies, and from which snapshot to which it leads.
 #![tactic(auto)]
 
 mod entry;

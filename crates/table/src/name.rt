@@ -1,16 +1,19 @@
 ghost use Rattle.std.specs.Prelude.{◌≡◌, ◌≤◌, [], length, take};
 ghost use Rattle.stream.specs.Verdict.{same};
-ghost use Rattle.table.specs.Names.{name_of};
 
 // The name of a snapshot: the first `length` of at most 64 bytes. The state before the first
-// snapshot has the empty name.
+// snapshot has the empty name. A name is Copy, so it keeps its length beside the array: an ArrayVec
+// could only be cloned.
 #[derive(Clone, Copy)]
 pub struct Name {
     bytes: [u8; 64],
     length: usize,
+    ghost short: { length ≤ 64 },
 }
 
 impl Name {
+    ghost use Rattle.table.specs.Names.{name_of};
+
     pub fn empty() -> Name
         ensures { name_of result ≡ [] }
     {
@@ -33,14 +36,26 @@ impl Name {
     pub fn as_bytes(&self) -> &[u8]
         ensures { result.now ≡ name_of self.now }
     {
-        front(&self.bytes, self.length)
+        &self.bytes[..self.length]
     }
 
     // Whether this is the name with these bytes.
+    #[tactic(auto, using(crate::proofs::Names::same_is))]
     pub fn is(&self, name: &[u8]) -> bool
         ensures { result ≡ same name.now (name_of self.now) }
     {
-        equal(name, self.as_bytes())
+        name == self.as_bytes()
+    }
+}
+
+impl Default for Name {
+    ghost use Rattle.table.specs.Names.{name_of};
+
+    ghost is_default = { λ name. name_of name ≡ [] };
+
+    // The empty name.
+    fn default() -> Name {
+        Name::empty()
     }
 }
 
@@ -50,19 +65,6 @@ fn padded(bytes: &[u8]) -> [u8; 64]
     ensures { take (length bytes.now) result ≡ bytes.now }
 {
     let mut all = [0; 64];
-    all[0..bytes.len()].copy_from_slice(bytes);
+    all[..bytes.len()].copy_from_slice(bytes);
     all
-}
-
-// The first n bytes, or all of them where there are no more.
-fn front(bytes: &[u8], n: usize) -> &[u8]
-    ensures { result.now ≡ take n bytes.now }
-{
-    if n < bytes.len() { &bytes[0..n] } else { bytes }
-}
-
-fn equal(a: &[u8], b: &[u8]) -> bool
-    ensures { result ≡ same a.now b.now }
-{
-    a == b
 }

@@ -1,21 +1,29 @@
-ghost use Rattle.std.specs.Prelude.{◌≡◌, ◌≤◌, true};
-ghost use Rattle.table.specs.Entries.{rows_of, ends_meet};
-
 use crate::entry::Entry;
 use crate::name::Name;
+use arrayvec::ArrayVec;
+use std::marker::Model;
 
 mod changes;
 mod queries;
 
 // The table of a shelf. A shelf keeps difference streams, its entries, end to end at the front of
 // a piece of memory. The table has the name of the snapshot that the base image holds, the entries
-// in order, of which the first `count` are in use, and the fill, the place where their bytes end.
+// in order, and the fill, the place where their bytes end. A contract sees it as a Table of specs.
 #[derive(Drop)]
 pub struct EntryTable {
     base: Name,
-    entries: [Entry; 64],
-    count: usize,
+    entries: ArrayVec<Entry, 64>,
     fill: usize,
-    ghost few: { count ≤ 64 },
-    ghost ends: { ends_meet 0 (rows_of count entries) fill ≡ true },
+}
+
+impl Model for EntryTable {
+    ghost use Rattle.table.specs.Tables.{Table, LaidOut};
+
+    ghost Value = { Table };
+
+    ghost use Rattle.table.specs.Held.{table_of};
+
+    ghost view = { table_of };
+
+    ghost invariant = { λ t. LaidOut (table_of t) };
 }

@@ -7,138 +7,85 @@
 // Bytes are in hexadecimal, `-` for none; a buffer holds AA everywhere before the call.
 #![tactic(auto)]
 
-use anyhow::anyhow;
 use apply::apply;
+use case::{Case, read_case};
 use fault::Fault;
 use join::join;
 use listing::list;
-use paged::PagedImage;
 use std::alloc::Global;
 use std::io::{BufRead, BufReader};
-use store::{FlatImage, Store};
+use store::Store;
 use stream::check;
-use words::{decoded, encoded, numbers};
+use words::{Memory, Pages, Room, contents, encoded, told};
 
-// What a call that wrote so many bytes, or was refused, says.
-fn outcome(heap: Global, r: Result<usize, Fault>) -> anyhow::Result<String> {
-    match r {
-        Ok(n) => Ok(format!(in heap; "{n}")?),
-        Err(f) => numbers(heap, f),
-    }
-}
+mod case;
 
-fn run_check(rt: &HostRuntime, word: &str) -> anyhow::Result<()> {
-    let stream = decoded(rt.alloc(), word)?;
-    match check(&stream) {
-        Ok(()) => println!(rt; "accepted")?,
-        Err(f) => {
-            let told = numbers(rt.alloc(), f)?;
-            println!(rt; "{told}")?;
-        }
-    }
-    Ok(())
-}
-
-fn run_list(rt: &HostRuntime, room: &str, word: &str) -> anyhow::Result<()> {
-    let heap = rt.alloc();
-    let stream = decoded(heap, word)?;
-    let room = room.parse::<usize>()?;
+// What a call says that is lent a buffer of so many bytes, and what the buffer then holds. (Series has one
+// of its own: there a buffer holds other bytes before the call, and is told otherwise.)
+fn with_buffer<F: FnOnce(&mut [u8]) -> Result<usize, Fault>>(
+    heap: Global,
+    room: usize,
+    call: F,
+) -> anyhow::Result<String>
+    requires { F.IsAlwaysCallable call }
+{
     let mut buffer = vec![in heap; 0xaau8; room]?;
-    let told = outcome(heap, list(&stream, &mut buffer))?;
+    let outcome = told(heap, call(&mut buffer))?;
     let held = encoded(heap, &buffer)?;
-    println!(rt; "{told} {held}")?;
-    Ok(())
-}
-
-fn run_join(rt: &HostRuntime, room: &str, first: &str, second: &str) -> anyhow::Result<()> {
-    let heap = rt.alloc();
-    let earlier = decoded(heap, first)?;
-    let later = decoded(heap, second)?;
-    let room = room.parse::<usize>()?;
-    let mut buffer = vec![in heap; 0xaau8; room]?;
-    let told = outcome(heap, join(&earlier, &later, &mut buffer))?;
-    let held = encoded(heap, &buffer)?;
-    println!(rt; "{told} {held}")?;
-    Ok(())
+    Ok(format!(in heap; "{outcome} {held}")?)
 }
 
 // Applies a stream to an image, and says what came of it and what the image then holds.
 fn apply_to<S: Store>(
-    rt: &HostRuntime,
+    heap: Global,
     image: &mut S,
     name: &[u8],
     stream: &[u8],
-) -> anyhow::Result<()> {
-    let heap = rt.alloc();
-    let told = match apply(stream, name, image) {
-        Ok(()) => format!(in heap; "done")?,
-        Err(f) => numbers(heap, f)?,
-    };
-    let size = image.size();
-    if size > 1 << 20 {
-        return Err(anyhow!("the image is too large to show"));
-    }
-    let mut bytes = vec![in heap; 0u8; size as usize]?;
-    if image.read(0, &mut bytes).is_err() {
-        return Err(anyhow!("the image was not read"));
-    }
-    let held = encoded(heap, &bytes)?;
-    println!(rt; "{told} {held}")?;
-    Ok(())
+) -> anyhow::Result<String> {
+    let answer = apply(stream, name, image);
+    let outcome = told(heap, answer.map(|()| "done"))?;
+    let held = encoded(heap, &contents(heap, image)?)?;
+    Ok(format!(in heap; "{outcome} {held}")?)
 }
 
-fn run_flat(rt: &HostRuntime, words: [&str; 4]) -> anyhow::Result<()> {
-    let heap = rt.alloc();
-    let room = words[0].parse::<usize>()?;
-    let first = decoded(heap, words[1])?;
-    let mut memory = vec![in heap; 0xaau8; room]?;
-    let mut image = FlatImage::open(&mut memory, first.len() as u64);
-    if image.write(0, &first).is_err() {
-        return Err(anyhow!("the first image does not fit"));
-    }
-    let name = decoded(heap, words[2])?;
-    let stream = decoded(heap, words[3])?;
-    apply_to(rt, &mut image, &name, &stream)
-}
-
-fn run_paged(rt: &HostRuntime, places: &str, words: [&str; 4]) -> anyhow::Result<()> {
-    let heap = rt.alloc();
-    let places = places.parse::<usize>()?.min(65536);
-    let pages = words[0].parse::<usize>()?.min(65535);
-    let first = decoded(heap, words[1])?;
-    let mut map = vec![in heap; 0u32; places]?;
-    let mut pool = vec![in heap; 0xaau8; pages * 256]?;
-    let mut image = PagedImage::open(&mut map, &mut pool);
-    if image.resize(first.len() as u64).is_err() || image.write(0, &first).is_err() {
-        return Err(anyhow!("the first image does not fit"));
-    }
-    let name = decoded(heap, words[2])?;
-    let stream = decoded(heap, words[3])?;
-    apply_to(rt, &mut image, &name, &stream)
-}
-
-fn run_case(rt: &HostRuntime, line: &str) -> anyhow::Result<()> {
-    let mut words = line.split(' ');
-    let call = words.next().unwrap_or("");
-    let first = words.next().unwrap_or("");
-    let second = words.next().unwrap_or("");
-    let third = words.next().unwrap_or("");
-    let fourth = words.next().unwrap_or("");
-    let fifth = words.next().unwrap_or("");
-    match call {
-        "check" => run_check(rt, first),
-        "list" => run_list(rt, first, second),
-        "join" => run_join(rt, first, second, third),
-        "flat" => run_flat(rt, [first, second, third, fourth]),
-        "paged" => run_paged(rt, first, [second, third, fourth, fifth]),
-        _ => Err(anyhow!("no such call")),
+// Runs a case, and says what came of it.
+fn run_case(heap: Global, case: &Case) -> anyhow::Result<String> {
+    match case {
+        Case::Check { stream } => told(heap, check(stream).map(|()| "accepted")),
+        Case::List { room, stream } => with_buffer(heap, *room, |buffer| list(stream, buffer)),
+        Case::Join {
+            room,
+            earlier,
+            later,
+        } => with_buffer(heap, *room, |buffer| join(earlier, later, buffer)),
+        Case::Apply {
+            room: Room::Flat { bytes },
+            image,
+            name,
+            stream,
+        } => {
+            let mut memory = Memory::new(heap, *bytes)?;
+            apply_to(heap, &mut memory.open(image)?, name, stream)
+        }
+        Case::Apply {
+            room: Room::Paged { places, pages },
+            image,
+            name,
+            stream,
+        } => {
+            let mut memory = Pages::new(heap, *places, *pages)?;
+            apply_to(heap, &mut memory.open(image)?, name, stream)
+        }
     }
 }
 
 fn run(rt: &HostRuntime) -> anyhow::Result<()> {
-    for line in BufReader::new(rt.alloc(), rt.stdin())?.lines(rt.alloc()) {
+    let heap = rt.alloc();
+    for line in BufReader::new(heap, rt.stdin())?.lines(heap) {
         let line = line?;
-        run_case(rt, line.as_str())?;
+        let case = read_case(heap, line.as_str())?;
+        let outcome = run_case(heap, &case)?;
+        println!(rt; "{outcome}")?;
     }
     Ok(())
 }

@@ -1,16 +1,24 @@
-// What a line of a case is made of: bytes as hexadecimal words, and the five numbers of a fault.
+// What a line of a case is made of: bytes as hexadecimal words, what a call answers, and the image that it
+// works on.
 #![tactic(auto)]
 
-ghost use Rattle.std.specs.Prelude.{◌≡◌, ◌<◌, IfOk, string_bytes};
+ghost use Rattle.std.specs.Prelude.{◌≡◌, ◌<◌, IfOk, IfSome, string_bytes};
 ghost use Rattle.words.specs.Digits.{digit_of};
-ghost use Rattle.words.specs.Numbers.{numbers_of};
+ghost use Rattle.words.specs.Numbers.{numbers_of, told_of};
 ghost use Rattle.words.specs.Spelling.{digits_of, pairs_in, word_of};
 
 use anyhow::anyhow;
 use fault::Fault;
 use std::alloc::Global;
+use std::fmt::Display;
 
-// The value of a hexadecimal digit.
+mod images;
+#[cfg(test)]
+mod tests;
+
+pub use images::{Memory, Pages, Room, contents};
+
+// The value of a hexadecimal digit. Words are read by hand: hex::decode also takes upper case, and no odd length.
 fn digit(b: u8) -> anyhow::Result<u8>
     ensures below { IfOk result (λ n. n < 16) }
     ensures value { IfOk result (λ n. digit_of n ≡ b) }
@@ -22,26 +30,14 @@ fn digit(b: u8) -> anyhow::Result<u8>
     }
 }
 
-// The digit of a number below 16.
-fn letter(n: u8) -> char
-    ensures { n < 16 → result ≡ digit_of n }
-{
-    match n {
-        0..=9 => (b'0' + n) as char,
-        10..=15 => (b'a' + (n - 10)) as char,
-        _ => '?',
-    }
-}
-
 // The bytes that the pairs of digits in a text spell.
 fn read_pairs(heap: Global, text: &[u8]) -> anyhow::Result<Vec<u8>>
     ensures { IfOk result (λ bytes. digits_of bytes.items ≡ pairs_in text.now) }
 {
+    let (pairs, _) = text.as_chunks::<2>();
     let mut bytes = Vec::new(heap);
-    for i in 0..text.len() / 2 {
-        let high = digit(text[2 * i])?;
-        let low = digit(text[2 * i + 1])?;
-        bytes.push(16 * high + low)?;
+    for [high, low] in pairs {
+        bytes.push(16 * digit(*high)? + digit(*low)?)?;
     }
     Ok(bytes)
 }
@@ -54,15 +50,11 @@ pub fn decoded(heap: Global, word: &str) -> anyhow::Result<Vec<u8>>
 }
 
 // The two digits of each byte.
+#[tactic(auto, using(crate::proofs::Spelled::spelled))]
 fn spell(heap: Global, bytes: &[u8]) -> anyhow::Result<String>
     ensures { IfOk result (λ digits. string_bytes digits ≡ digits_of bytes.now) }
 {
-    let mut digits = String::new(heap);
-    for b in bytes {
-        digits.push(letter(*b / 16))?;
-        digits.push(letter(*b % 16))?;
-    }
-    Ok(digits)
+    Ok(hex::encode(heap, bytes)?)
 }
 
 // Bytes as a word.
@@ -77,13 +69,23 @@ pub fn encoded(heap: Global, bytes: &[u8]) -> anyhow::Result<String>
 }
 
 // The five numbers of a fault, in decimal, single spaces between.
-pub fn numbers(heap: Global, f: Fault) -> anyhow::Result<String>
-    ensures { IfOk result (λ s. string_bytes s ≡ numbers_of f) }
+pub fn numbers(heap: Global, fault: Fault) -> anyhow::Result<String>
+    ensures { IfOk result (λ text. string_bytes text ≡ numbers_of fault) }
 {
-    let cause = f.cause.number();
-    let layer = f.layer.number();
-    let place = f.place;
-    let record = f.record;
-    let entry = f.entry;
+    let cause = fault.cause.number();
+    let layer = fault.layer.number();
+    let place = fault.place;
+    let record = fault.record;
+    let entry = fault.entry;
     Ok(format!(in heap; "{cause} {layer} {place} {record} {entry}")?)
+}
+
+// What a call answers, or the five numbers of the fault that it is refused with.
+pub fn told<T: Display + Drop>(heap: Global, answer: Result<T, Fault>) -> anyhow::Result<String>
+    ensures { IfOk result (λ text. IfSome (told_of T.output answer) (λ bytes. string_bytes text ≡ bytes)) }
+{
+    match answer {
+        Ok(x) => Ok(x.to_string(heap)?),
+        Err(fault) => numbers(heap, fault),
+    }
 }

@@ -5,7 +5,7 @@ use Rattle.stream.specs.Bytes.{patched}
 use Rattle.stream.specs.Records.{Content, encoded}
 use Rattle.stream.specs.Steps.{Pos, err_by}
 use Rattle.stream.specs.Wellformed.{GoodName, GoodRange, moved}
-use Rattle.stream.specs.declared.kinds.State.TheVariants.{Data}
+use Rattle.stream.specs.Rule.{Data}
 use Rattle.writer.specs.Fields.{opening}
 use Rattle.writer.specs.Calls.{good_name, names_check, range_check, fits, named, admitted, offset_of, extent, pos_of, answered, first, Named, Recorded, Finished}
 use Rattle.writer.specs.declared.states.Recording.{Recording}

@@ -1,4 +1,5 @@
 pub mod Tail
 pub mod Opening
+mod Written
 mod Accepted
 mod Series

@@ -1,18 +1,10 @@
 -- What stands before the data records, piece by piece.
-use Rattle.std.proofs.Common.{◌≡◌, ℕ, ◌+◌, ◌<◌, List, [], ◌∷◌, ◌++◌, length, refl, ap, ◌∙◌, arith}
-use Rattle.std.proofs.lemmas.List.{append-nil, append_assoc, length-append}
+use Rattle.std.proofs.Common.{◌≡◌, ℕ, ◌+◌, List, [], ◌∷◌, ◌++◌, length, ap, ◌∙◌, arith}
+use Rattle.std.proofs.lemmas.List.{append_assoc, length-append}
 use Rattle.stream.specs.Bytes.{le_bytes}
 use Rattle.stream.specs.Records.{header, encodings, from_records, to_name, image_size}
 use Rattle.writer.specs.Fields.{name_record, opening}
 use Rattle.stream.proofs.Meanings.{encodings_append}
-
-pub from_none : (xs : List ℕ) → length xs ≡ 0 → encodings (from_records xs) ≡ []
-from_none [] e = refl
-from_none (x ∷ xs) e = absurd (omega arith)
-
-pub from_some : (xs : List ℕ) → 0 < length xs → encodings (from_records xs) ≡ name_record 102 xs
-from_some [] h = absurd (omega arith)
-from_some (x ∷ xs) h = append-nil (name_record 102 (x ∷ xs))
 
 regroup : (a b c d e : List ℕ) → a ++ (b ++ (c ++ (d ++ e))) ≡ (((a ++ b) ++ c) ++ d) ++ e
 regroup a b c d e = simp append_assoc

@@ -7,7 +7,7 @@ use Rattle.stream.specs.Rule.{meta, late_rule}
 use Rattle.stream.specs.Steps.{Pos}
 use Rattle.stream.specs.Verdict.{start, verdict}
 use Rattle.stream.specs.Wellformed.{GoodName, GoodRange, WellFormed, ReadsBack, moved}
-use Rattle.stream.specs.declared.kinds.State.TheVariants.{Data}
+use Rattle.stream.specs.Rule.{Data}
 use Rattle.writer.specs.Fields.{opening}
 use Rattle.writer.specs.Calls.{pos_of, first, Finished}
 use Rattle.writer.specs.Whole.{Writes, no_more, write, zero, refused, not_ended, EndedIsStream}

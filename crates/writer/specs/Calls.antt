@@ -1,11 +1,12 @@
 -- What the writer's calls answer, and what the buffer then holds. Rests on the stream format, and on where a reader stands behind a record.
 use Rattle.std.specs.Prelude.{◌≡◌, ℕ, ◌+◌, ◌^◌, ◌≤◌, Bool, cond, ◌&&◌, ◌||◌, List, [], ◌∷◌, length, is_ok, Ok, Err, Result, ◌==◌, nat_le, nat_lt}
 use Rattle.stream.specs.Bytes.{patched}
-use Rattle.stream.specs.Records.{Content, from_name, to_name, image_size, data_at, zeros_at, encoded, encodings, from_records}
+use Rattle.stream.specs.Records.{Content, from_name, to_name, image_size, data_at, zeros_at, encoded}
 use Rattle.stream.specs.Steps.{Pos, every_printable, err_by}
 use Rattle.stream.specs.Wellformed.{moved, GoodRange}
-use Rattle.stream.specs.declared.kinds.State.TheVariants.{Data}
+use Rattle.stream.specs.Rule.{Data}
 use Rattle.writer.specs.Fields.{opening}
+use Rattle.writer.specs.declared.heading.Heading.{Heading}
 use Rattle.writer.specs.declared.states.Opened.{Opened}
 use Rattle.writer.specs.declared.states.Recording.{Recording}
 use Rattle.writer.specs.declared.states.Ended.{Ended}
@@ -44,19 +45,18 @@ named room from to size = then (err_by (λ c. fault c 0) (names_check from to si
 abbrev pub admitted : Pos → ℕ → ℕ → ℕ → ℕ → Result ℕ Fault
 admitted p room offset n taken = then (err_by (λ c. fault c p.place) (range_check p offset n)) (λ _. fits room (p.place + taken))
 
--- names and size that were admitted up to a place: they are short, and the buffer reaches there
-pub record Opens (room : ℕ) (from to : List ℕ) (size place : ℕ) : Type 0 where
-  pub short_from : length from ≤ 64
-  pub short_to : length to ≤ 64
-  pub reached : 26 + length (encodings (from_records from)) + length to ≤ room
-  pub bounded : place ≤ 159
-  pub sized : size ≤ 2 ^ 40
+-- the length of the heading that names and a size were admitted as
+abbrev pub lengths : Result Heading Fault → Result ℕ Fault
+lengths (Ok h) = Ok (length (opening h.from.now h.to.now h.size))
+lengths (Err f) = Err f
 
--- a data record that was admitted up to a place: its range is good, and the buffer reaches there
-pub record Follows (p : Pos) (room offset n taken place : ℕ) : Type 0 where
-  pub good : GoodRange p offset n
-  pub behind : place ≡ p.place + taken
-  pub reached : place ≤ room
+-- names and size that were admitted as a heading: it is theirs, and the buffer has room for it
+pub record Opens (room : ℕ) (from to : List ℕ) (size : ℕ) (h : Heading) : Type 0 where
+  pub from_is : h.from.now ≡ from
+  pub to_is : h.to.now ≡ to
+  pub size_is : h.size ≡ size
+  pub reached : length (opening from to size) ≤ room
+  pub sized : size ≤ 2 ^ 40
 
 -- the bytes of the image that a record is about: where they begin and how many there are; metadata is about none
 abbrev pub offset_of : Content → ℕ
@@ -76,6 +76,17 @@ extent (zeros_at offset n) = n
 -- where a recording writer stands: where a reader of the bytes so far would stand, ready for data
 abbrev pub pos_of : Recording → Pos
 pos_of w = record { place = w.place; state = Data; size = w.size; end = w.end; count = w.count }
+
+-- the place of the writer behind a data record that was admitted
+abbrev pub placed : Result Recording Fault → Result ℕ Fault
+placed (Ok w) = Ok w.place
+placed (Err f) = Err f
+
+-- that writer: the record's range is good, it stands behind the record, and the buffer reaches there
+pub record Follows (p : Pos) (room offset n taken : ℕ) (w : Recording) : Type 0 where
+  pub good : GoodRange p offset n
+  pub stands : pos_of w ≡ record { place = p.place + taken; state = Data; size = p.size; end = offset + n; count = p.count + 1 }
+  pub reached : w.place ≤ room
 
 -- what a call answers, where the writers are told by their numbers: what it moves on to, or what it gives back and the fault
 abbrev pub answered : {A B : Type 0} → A → B → Result ℕ Fault → Result A (B × Fault)

@@ -2,13 +2,13 @@
 ghost use Rattle.std.specs.Prelude.{◌≡◌, ◌+◌, ◌^◌, ◌≤◌, length, IfOk, OnOk};
 ghost use Rattle.stream.specs.Records.{data_at, zeros_at};
 ghost use Rattle.stream.specs.Wellformed.{GoodRange};
-ghost use Rattle.writer.specs.Calls.{good_name, names_check, range_check, fits, named, admitted, pos_of, Opens, Follows, Named, Recorded, Finished};
+ghost use Rattle.writer.specs.Calls.{good_name, names_check, range_check, fits, named, admitted, pos_of, lengths, placed, Opens, Follows, Named, Recorded, Finished};
 
-use crate::fields::{from_length, put_opening};
+use crate::heading::Heading;
 use crate::records::{place_data, place_end, place_zeros};
 use crate::states::{Ended, Opened, Recording, Refused};
 use fault::{Cause, Fault};
-use stream::printable;
+use stream::{LARGEST_SIZE, LONGEST_NAME, MOST_RECORDS, printable};
 
 // Whether a buffer of `room` bytes reaches up to a place: the place, or a buffer too short.
 fn reach(room: usize, place: usize) -> Result<usize, Fault>
@@ -24,7 +24,7 @@ fn reach(room: usize, place: usize) -> Result<usize, Fault>
 pub fn is_good_name(name: &[u8]) -> bool
     ensures { result ≡ good_name name.now }
 {
-    name.len() > 0 && name.len() <= 64 && printable(name)
+    !name.is_empty() && name.len() <= LONGEST_NAME && printable(name)
 }
 
 // What speaks against names and a size; an empty from name stands for none.
@@ -32,24 +32,29 @@ fn check_names(from: &[u8], to: &[u8], size: u64) -> Result<(), Cause>
     ensures answer { result ≡ names_check from.now to.now size }
     ensures short { OnOk result ((length from.now ≤ 64) × (length to.now ≤ 64) × (size ≤ 2 ^ 40)) }
 {
-    if from.len() > 0 && !is_good_name(from) || !is_good_name(to) {
+    if !from.is_empty() && !is_good_name(from) || !is_good_name(to) {
         return Err(Cause::BadName);
     }
-    if size > 1 << 40 {
+    if size > LARGEST_SIZE {
         return Err(Cause::TooLarge);
     }
     Ok(())
 }
 
-// The place behind header, names and size, where they may be written into `room` bytes.
-fn admit_names(room: usize, from: &[u8], to: &[u8], size: u64) -> Result<usize, Fault>
-    ensures answer { result ≡ named room from.now to.now size }
-    ensures good { IfOk result (λ n. Opens room from.now to.now size n) }
+// The heading of names and a size, where it may be written into `room` bytes.
+fn admit_names<'a>(
+    room: usize,
+    from: &'a [u8],
+    to: &'a [u8],
+    size: u64,
+) -> Result<Heading<'a>, Fault>
+    ensures answer { lengths result ≡ named room from.now to.now size }
+    ensures good { IfOk result (λ h. Opens room from.now to.now size h) }
 {
-    match check_names(from, to, size) {
-        Ok(()) => reach(room, 26 + from_length(from) + to.len()),
-        Err(cause) => Err(Fault::new(cause, 0)),
-    }
+    check_names(from, to, size).map_err(|cause| Fault::new(cause, 0))?;
+    let heading = Heading { from, to, size };
+    reach(room, heading.length())?;
+    Ok(heading)
 }
 
 impl Opened {
@@ -70,31 +75,28 @@ impl Opened {
     ) -> Result<Recording, Refused<Opened>>
         ensures { Named out.old from.now to.now size result out.new }
     {
-        match admit_names(out.len(), from, to, size) {
-            Ok(place) => {
-                put_opening(out, from, to, size);
-                Ok(Recording {
-                    place,
-                    size,
-                    end: 0,
-                    count: 0,
-                })
-            }
-            Err(fault) => Err(Refused {
-                writer: self,
-                fault,
-            }),
-        }
+        let heading = admit_names(out.len(), from, to, size).map_err(|fault| Refused {
+            writer: self,
+            fault,
+        })?;
+        heading.put(out);
+        Ok(Recording {
+            place: heading.length(),
+            size,
+            end: 0,
+            count: 0,
+        })
     }
 }
 
 impl Recording {
-    // What speaks against a data record of `count` bytes at an offset.
+    // What speaks against a data record of `count` bytes at an offset. (In a reader a record that is cut
+    // off is told between these, so the two checks are not one.)
     fn check_range(&self, offset: u64, count: u64) -> Result<(), Cause>
         ensures answer { result ≡ range_check (pos_of self.now) offset count }
         ensures good { OnOk result (GoodRange (pos_of self.now) offset count) }
     {
-        if self.count >= 512 {
+        if self.count >= MOST_RECORDS {
             return Err(Cause::TooManyRecords);
         }
         if count == 0 || offset > self.size || count > self.size - offset {
@@ -106,16 +108,27 @@ impl Recording {
         Ok(())
     }
 
-    // The place behind a data record with so much payload, where it may be written into `room` bytes.
-    fn admit(&self, room: usize, offset: u64, count: u64, payload: usize) -> Result<usize, Fault>
+    // The writer behind a data record with so much payload, where that may be written into `room` bytes.
+    fn admit(
+        &self,
+        room: usize,
+        offset: u64,
+        count: u64,
+        payload: usize,
+    ) -> Result<Recording, Fault>
         requires { payload ≤ count }
-        ensures answer { result ≡ admitted (pos_of self.now) room offset count (17 + payload) }
-        ensures good { IfOk result (λ n. Follows (pos_of self.now) room offset count (17 + payload) n) }
+        ensures answer { placed result ≡ admitted (pos_of self.now) room offset count (17 + payload) }
+        ensures good { IfOk result (λ w. Follows (pos_of self.now) room offset count (17 + payload) w) }
     {
-        match self.check_range(offset, count) {
-            Ok(()) => reach(room, self.place + 17 + payload),
-            Err(cause) => Err(Fault::new(cause, self.place as u64)),
-        }
+        self.check_range(offset, count)
+            .map_err(|cause| Fault::new(cause, self.place as u64))?;
+        let place = reach(room, self.place + 17 + payload)?;
+        Ok(Recording {
+            place,
+            size: self.size,
+            end: offset + count,
+            count: self.count + 1,
+        })
     }
 
     // Adds a range of written bytes.
@@ -127,22 +140,15 @@ impl Recording {
     ) -> Result<Recording, Refused<Recording>>
         ensures { Recorded self out.old (data_at offset bytes.now) result out.new }
     {
-        let count = bytes.len() as u64;
-        match self.admit(out.len(), offset, count, bytes.len()) {
-            Ok(place) => {
-                place_data(out, self.place, offset, bytes);
-                Ok(Recording {
-                    place,
-                    size: self.size,
-                    end: offset + count,
-                    count: self.count + 1,
-                })
-            }
-            Err(fault) => Err(Refused {
+        let at = self.place;
+        let behind = self
+            .admit(out.len(), offset, bytes.len() as u64, bytes.len())
+            .map_err(|fault| Refused {
                 writer: self,
                 fault,
-            }),
-        }
+            })?;
+        place_data(out, at, offset, bytes);
+        Ok(behind)
     }
 
     // Adds a range of zeros.
@@ -154,37 +160,28 @@ impl Recording {
     ) -> Result<Recording, Refused<Recording>>
         ensures { Recorded self out.old (zeros_at offset «length») result out.new }
     {
-        match self.admit(out.len(), offset, length, 0) {
-            Ok(place) => {
-                place_zeros(out, self.place, offset, length);
-                Ok(Recording {
-                    place,
-                    size: self.size,
-                    end: offset + length,
-                    count: self.count + 1,
-                })
-            }
-            Err(fault) => Err(Refused {
+        let at = self.place;
+        let behind = self
+            .admit(out.len(), offset, length, 0)
+            .map_err(|fault| Refused {
                 writer: self,
                 fault,
-            }),
-        }
+            })?;
+        place_zeros(out, at, offset, length);
+        Ok(behind)
     }
 
     // Ends the stream.
     pub fn end(self, out: &mut [u8]) -> Result<Ended, Refused<Recording>>
         ensures { Finished self out.old result out.new }
     {
-        match reach(out.len(), self.place + 1) {
-            Ok(length) => {
-                place_end(out, self.place);
-                Ok(Ended { length })
-            }
-            Err(fault) => Err(Refused {
-                writer: self,
-                fault,
-            }),
-        }
+        let at = self.place;
+        let length = reach(out.len(), at + 1).map_err(|fault| Refused {
+            writer: self,
+            fault,
+        })?;
+        place_end(out, at);
+        Ok(Ended { length })
     }
 }
 

@@ -9,25 +9,27 @@ use stream::laws_of_reading;
 
 mod calls;
 mod fields;
+mod heading;
 mod records;
 mod states;
 
 pub use calls::is_good_name;
-pub use fields::{from_length, put_bytes, put_opening, put_range, put_u8};
+pub use fields::{put_bytes, put_range, put_u8};
+pub use heading::Heading;
 pub use states::{Ended, Opened, Recording, Refused};
 
-fn whole_runs() -> u8
+fn whole_runs()
     ensures { EndedIsStream }
 {
-    laws_of_reading()
+    laws_of_reading();
 }
 
 // The law of writing: for every buffer, where names were accepted, then a series of records, each of
 // them accepted or refused in turn, and then the end, the buffer holds in as many bytes as the ended
 // stream tells the stream of exactly the names, the size and the accepted records, in their order;
 // it is accepted and reads as these; and the bytes behind it are as they were.
-pub fn laws_of_writing() -> u8
+pub fn laws_of_writing()
     ensures { EndedIsStream }
 {
-    whole_runs()
+    whole_runs();
 }

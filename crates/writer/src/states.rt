@@ -18,7 +18,7 @@ pub struct Recording {
     pub(crate) place: usize,
     pub(crate) size: u64,
     pub(crate) end: u64,
-    pub(crate) count: u64,
+    pub(crate) count: usize,
     ghost sized: { size ≤ 2 ^ 40 },
     ghost within: { end ≤ size },
     ghost few: { count ≤ 512 },

@@ -6,15 +6,15 @@ ghost use Rattle.paged.specs.Paged.{paged_image, paged_holds, paged_laws, Untouc
 use crate::image::PagedImage;
 use crate::pages::Pages;
 use fault::{Cause, Fault};
-use store::{Store, within};
+use store::{Store, check_range};
 
 impl<'a> PagedImage<'a> {
     // An image of size 0 over a map and a pool.
     pub fn open(map: &'a mut [u32], pool: &'a mut [u8]) -> PagedImage<'a>
         ensures image { paged_image result ≡ [] }
         ensures holds { paged_holds result ≡ paged_set map.old pool.old }
-        ensures pool { result.pages.pool.now ≡ pool.old }
-        ensures kept { Kept map.old pool.old result.pages.map.now result.pages.pool.now }
+        ensures pool { result.pages.paging.pool.now ≡ pool.old }
+        ensures kept { Kept map.old pool.old result.pages.paging.map.now result.pages.paging.pool.now }
         ensures past { PastZero result }
     {
         PagedImage {
@@ -27,7 +27,7 @@ impl<'a> PagedImage<'a> {
     pub fn used_pages(&self) -> u64
         ensures { result ≡ filled_pages (paged_image self.now) }
     {
-        self.pages.used as u64
+        self.pages.paging.used as u64
     }
 }
 
@@ -43,9 +43,7 @@ impl<'a> Store for PagedImage<'a> {
     }
 
     fn read(&self, offset: u64, buf: &mut [u8]) -> Result<(), Fault> {
-        if !within(offset, buf.len() as u64, self.size) {
-            return Err(Fault::new(Cause::Outside, offset));
-        }
+        check_range(offset, buf.len() as u64, self.size)?;
         self.get(offset, buf);
         Ok(())
     }
@@ -57,9 +55,7 @@ impl<'a> Store for PagedImage<'a> {
         ensures past { PastZero self.new }
         ensures refused { is_ok result ≡ false → self.new ≡ self.old }
     {
-        if !within(offset, bytes.len() as u64, self.size) {
-            return Err(Fault::new(Cause::Outside, offset));
-        }
+        check_range(offset, bytes.len() as u64, self.size)?;
         // The result decides: a page that the write blanks makes room for one that it fills.
         if !self.has_room(offset, bytes) {
             return Err(Fault::new(Cause::NoRoom, offset));
@@ -75,9 +71,7 @@ impl<'a> Store for PagedImage<'a> {
         ensures past { PastZero self.new }
         ensures refused { is_ok result ≡ false → self.new ≡ self.old }
     {
-        if !within(offset, length, self.size) {
-            return Err(Fault::new(Cause::Outside, offset));
-        }
+        check_range(offset, length, self.size)?;
         self.clear(offset, length);
         Ok(())
     }

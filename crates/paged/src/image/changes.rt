@@ -46,7 +46,7 @@ impl<'a> PagedImage<'a> {
 
     // Whether there is a map place for each page of an image of this size.
     pub(super) fn can_resize(&self, size: u64) -> bool
-        ensures room { result ≡ nat_le size (256 * places self.now.pages.map.now) }
+        ensures room { result ≡ nat_le size (256 * places self.now.pages.paging.map.now) }
         ensures held { result ≡ paged_holds self.now (resized (paged_image self.now) size) }
     {
         size <= 256 * self.pages.map_places() as u64
@@ -65,7 +65,7 @@ impl<'a> PagedImage<'a> {
 
     // Another size for an image that has zeros from there on.
     pub(super) fn set_size(&mut self, size: u64)
-        requires room { size ≤ 256 * places self.old.pages.map.now }
+        requires room { size ≤ 256 * places self.old.pages.paging.map.now }
         requires clear { ZeroFrom size (paged_image self.old) }
         ensures same { paged_holds self.new ≡ paged_holds self.old }
         ensures image { paged_image self.new ≡ resized (paged_image self.old) size }

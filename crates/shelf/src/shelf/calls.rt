@@ -1,7 +1,6 @@
 // The calls of a shelf. A refusal alters nothing, but for the image where the store stops a settle.
 ghost use Rattle.std.specs.Prelude.{◌≡◌};
 ghost use Rattle.shelf.specs.Outcomes.{make_answer, put_answer, put_table, put_bytes, join_answer, join_work, join_table, join_bytes, settle_answer, settle_image, settle_table, settle_bytes, list_answer, list_buffer};
-ghost use Rattle.shelf.specs.Shelves.{shelf_table, made_table};
 
 use crate::joins::join_entries;
 use crate::lists::list;
@@ -17,7 +16,7 @@ impl Shelf {
     // An empty shelf beside a base image at the snapshot `base`; the empty name stands for the state
     // before the first snapshot. A bad name is refused.
     pub fn new(base: &[u8]) -> Result<Shelf, Fault>
-        ensures { made_table result ≡ make_answer base.now }
+        ensures { result ≡ make_answer base.now }
     {
         if base.len() > 0 && !is_good_name(base) {
             return Err(Fault::new(Cause::BadName, 0).at_layer(Layer::Shelf));
@@ -31,9 +30,9 @@ impl Shelf {
     // that end before the fill, the stream, a from name that is not the last entry's to name (or the base
     // name), a 65th entry, a to name that is the base name or an entry's to name, bytes too short.
     pub fn put(&mut self, bytes: &mut [u8], stream: &[u8]) -> Result<(), Fault>
-        ensures answer { result ≡ put_answer (shelf_table self.old) bytes.old stream.now }
-        ensures table { shelf_table self.new ≡ put_table (shelf_table self.old) bytes.old stream.now }
-        ensures bytes { bytes.new ≡ put_bytes (shelf_table self.old) bytes.old stream.now }
+        ensures answer { result ≡ put_answer self.old bytes.old stream.now }
+        ensures table { self.new ≡ put_table self.old bytes.old stream.now }
+        ensures bytes { bytes.new ≡ put_bytes self.old bytes.old stream.now }
     {
         put_stream(&mut self.table, bytes, stream)
     }
@@ -43,10 +42,10 @@ impl Shelf {
     // the fill, entry i, entry i + 1 (each its stream's fault, then damage), more than 512 canonical
     // records, a work buffer too short, bytes too short.
     pub fn join(&mut self, bytes: &mut [u8], i: usize, work: &mut [u8]) -> Result<usize, Fault>
-        ensures answer { result ≡ join_answer (shelf_table self.old) bytes.old i work.old }
-        ensures work { work.new ≡ join_work (shelf_table self.old) bytes.old i work.old }
-        ensures table { shelf_table self.new ≡ join_table (shelf_table self.old) bytes.old i work.old }
-        ensures bytes { bytes.new ≡ join_bytes (shelf_table self.old) bytes.old i work.old }
+        ensures answer { result ≡ join_answer self.old bytes.old i work.old }
+        ensures work { work.new ≡ join_work self.old bytes.old i work.old }
+        ensures table { self.new ≡ join_table self.old bytes.old i work.old }
+        ensures bytes { bytes.new ≡ join_bytes self.old bytes.old i work.old }
     {
         join_entries(&mut self.table, bytes, i, work)
     }
@@ -56,10 +55,10 @@ impl Shelf {
     // stop after some records: what they did stands, and the entry stays.
     pub fn settle<S: Store>(&mut self, bytes: &mut [u8], base: &mut S) -> Result<(), Fault>
         ensures same { S.holds base.new ≡ S.holds base.old }
-        ensures answer { result ≡ settle_answer (S.holds base.old) (shelf_table self.old) bytes.old (S.image base.old) }
-        ensures image { S.image base.new ≡ settle_image (S.holds base.old) (shelf_table self.old) bytes.old (S.image base.old) }
-        ensures table { shelf_table self.new ≡ settle_table (S.holds base.old) (shelf_table self.old) bytes.old (S.image base.old) }
-        ensures bytes { bytes.new ≡ settle_bytes (S.holds base.old) (shelf_table self.old) bytes.old (S.image base.old) }
+        ensures answer { result ≡ settle_answer (S.holds base.old) self.old bytes.old (S.image base.old) }
+        ensures image { S.image base.new ≡ settle_image (S.holds base.old) self.old bytes.old (S.image base.old) }
+        ensures table { self.new ≡ settle_table (S.holds base.old) self.old bytes.old (S.image base.old) }
+        ensures bytes { bytes.new ≡ settle_bytes (S.holds base.old) self.old bytes.old (S.image base.old) }
     {
         settle_first(&mut self.table, bytes, base)
     }
@@ -67,8 +66,8 @@ impl Shelf {
     // Writes the ranges of entry i to the front of `text` and tells how many bytes that took. Refused, in
     // this order: no such entry, bytes that end before the fill, the entry, a buffer too short.
     pub fn list(&self, bytes: &[u8], i: usize, text: &mut [u8]) -> Result<usize, Fault>
-        ensures answer { result ≡ list_answer (shelf_table self.now) bytes.now i text.old }
-        ensures buffer { text.new ≡ list_buffer (shelf_table self.now) bytes.now i text.old }
+        ensures answer { result ≡ list_answer self.now bytes.now i text.old }
+        ensures buffer { text.new ≡ list_buffer self.now bytes.now i text.old }
     {
         list(&self.table, bytes, i, text)
     }

@@ -5,31 +5,29 @@ ghost use Rattle.store.specs.Flat.{flat_memory, flat_image, flat_holds, flat_law
 
 use crate::contract::Store;
 use crate::flat::FlatImage;
-use crate::memory::Memory;
-use crate::range::within;
+use crate::flat::changes::room;
+use crate::range::check_range;
 use fault::{Cause, Fault};
 
 impl<'a> FlatImage<'a> {
     // The image that the memory's first bytes are. A size that the memory does not hold becomes the
     // largest that it does.
     pub fn open(bytes: &'a mut [u8], size: u64) -> FlatImage<'a>
-        ensures lender { result.memory.bytes.ghost_name ≡ bytes.entry.ghost_name }
+        ensures lender { result.bytes.ghost_name ≡ bytes.entry.ghost_name }
         ensures memory { flat_memory result ≡ bytes.old }
         ensures image { flat_image result ≡ take (min size (flat_room bytes.old)) bytes.old }
         ensures holds { flat_holds result ≡ flat_set bytes.old }
     {
-        let mut memory = Memory { bytes, size };
-        memory.size = size.min(memory.room());
-        FlatImage { memory }
+        let size = size.min(room(bytes));
+        FlatImage { bytes, size }
     }
 
     // Gives the memory back.
     pub fn close(self) -> &'a mut [u8]
-        ensures lender { result.ghost_name ≡ self.entry.memory.bytes.ghost_name }
+        ensures lender { result.ghost_name ≡ self.entry.bytes.ghost_name }
         ensures memory { result.now ≡ flat_memory self.entry }
     {
-        let FlatImage { memory } = self;
-        let Memory { bytes, size: _ } = memory;
+        let FlatImage { bytes, size: _ } = self;
         bytes
     }
 }
@@ -42,14 +40,12 @@ impl<'a> Store for FlatImage<'a> {
     ghost laws = { flat_laws };
 
     fn size(&self) -> u64 {
-        self.memory.size
+        self.size
     }
 
     fn read(&self, offset: u64, buf: &mut [u8]) -> Result<(), Fault> {
-        if !within(offset, buf.len() as u64, self.memory.size) {
-            return Err(Fault::new(Cause::Outside, offset));
-        }
-        self.memory.get(offset as usize, buf);
+        check_range(offset, buf.len() as u64, self.size)?;
+        self.get(offset as usize, buf);
         Ok(())
     }
 
@@ -57,12 +53,10 @@ impl<'a> Store for FlatImage<'a> {
         ensures same { flat_holds self.new ≡ flat_holds self.old }
         ensures outcome { (result, flat_image self.new) ≡ write_outcome (flat_holds self.old) (flat_image self.old) offset bytes.now }
         ensures past { PastKept self.old self.new }
-        ensures lender { self.new.memory.bytes.ghost_name ≡ self.old.memory.bytes.ghost_name }
+        ensures lender { self.new.bytes.ghost_name ≡ self.old.bytes.ghost_name }
     {
-        if !within(offset, bytes.len() as u64, self.memory.size) {
-            return Err(Fault::new(Cause::Outside, offset));
-        }
-        self.memory.put(offset as usize, bytes);
+        check_range(offset, bytes.len() as u64, self.size)?;
+        self.put(offset as usize, bytes);
         Ok(())
     }
 
@@ -70,12 +64,10 @@ impl<'a> Store for FlatImage<'a> {
         ensures same { flat_holds self.new ≡ flat_holds self.old }
         ensures outcome { (result, flat_image self.new) ≡ zero_outcome (flat_holds self.old) (flat_image self.old) offset length }
         ensures past { PastKept self.old self.new }
-        ensures lender { self.new.memory.bytes.ghost_name ≡ self.old.memory.bytes.ghost_name }
+        ensures lender { self.new.bytes.ghost_name ≡ self.old.bytes.ghost_name }
     {
-        if !within(offset, length, self.memory.size) {
-            return Err(Fault::new(Cause::Outside, offset));
-        }
-        self.memory.clear(offset as usize, length as usize);
+        check_range(offset, length, self.size)?;
+        self.clear(offset as usize, length as usize);
         Ok(())
     }
 
@@ -83,14 +75,14 @@ impl<'a> Store for FlatImage<'a> {
         ensures same { flat_holds self.new ≡ flat_holds self.old }
         ensures outcome { (result, flat_image self.new) ≡ resize_outcome (flat_holds self.old) (flat_image self.old) size }
         ensures past { PastKept self.old self.new }
-        ensures lender { self.new.memory.bytes.ghost_name ≡ self.old.memory.bytes.ghost_name }
+        ensures lender { self.new.bytes.ghost_name ≡ self.old.bytes.ghost_name }
     {
-        if !self.memory.can_resize(size) {
+        if !self.can_resize(size) {
             return Err(Fault::new(Cause::NoRoom, size));
         }
         // Growth writes zeros from the old size on; a cut clears nothing.
-        self.memory.clear_growth(size as usize);
-        self.memory.size = size;
+        self.clear_growth(size as usize);
+        self.size = size;
         Ok(())
     }
 }

@@ -1,34 +1,34 @@
 ghost use Rattle.std.specs.Prelude.{◌≡◌, ◌+◌, ◌^◌, ◌<◌, ◌≤◌, length};
 ghost use Rattle.table.specs.Entries.{row_of};
-ghost use Rattle.table.specs.Held.{table_of, append_row, take_over, drop_for};
+ghost use Rattle.table.specs.Held.{append_row, take_over, drop_for};
 ghost use Rattle.table.specs.Names.{name_of};
 ghost use Rattle.table.specs.Tables.{empty_table, add_row, unite_rows, drop_row};
 
 use crate::entry::Entry;
 use crate::name::Name;
-use crate::rows::close_gap;
+use crate::rows::shift_all;
 use crate::table::EntryTable;
+use arrayvec::ArrayVec;
 
 impl EntryTable {
     // A table without entries.
     pub fn new(base: &[u8]) -> EntryTable
         requires { length base.now ≤ 64 }
-        ensures { table_of result ≡ empty_table base.now }
+        ensures { result ≡ empty_table base.now }
     {
         EntryTable {
             base: Name::of(base),
-            entries: [Entry::empty(); 64],
-            count: 0,
+            entries: ArrayVec::new(),
             fill: 0,
         }
     }
 
     // A new last entry, whose bytes lie at the fill.
     pub fn add(&mut self, byte_count: usize, from: &[u8], to: &[u8])
-        requires room { length (table_of self.old).rows < 64 }
+        requires room { length self.old.rows < 64 }
         requires names { (length from.now ≤ 64) × (length to.now ≤ 64) }
-        requires fits { (table_of self.old).fill + byte_count < 2 ^ 64 }
-        ensures { table_of self.new ≡ add_row (table_of self.old) byte_count from.now to.now }
+        requires fits { self.old.fill + byte_count < 2 ^ 64 }
+        ensures { self.new ≡ add_row self.old byte_count from.now to.now }
     {
         let entry = Entry {
             place: self.fill,
@@ -41,18 +41,18 @@ impl EntryTable {
 
     // Entries i and i + 1 become one of so many bytes, and the later ones move.
     pub fn unite(&mut self, i: usize, byte_count: usize)
-        requires two { i + 1 < length (table_of self.old).rows }
-        requires fits { (unite_rows (table_of self.old) i byte_count).fill < 2 ^ 64 }
-        ensures { table_of self.new ≡ unite_rows (table_of self.old) i byte_count }
+        requires two { i + 1 < length self.old.rows }
+        requires fits { (unite_rows self.old i byte_count).fill < 2 ^ 64 }
+        ensures { self.new ≡ unite_rows self.old i byte_count }
     {
-        let later = self.entry_after(i);
+        let later = self.entries()[i + 1];
         self.take_over(i, byte_count, later.to);
     }
 
     // Entry 0 leaves, its to name becomes the base name, and the later ones move to the front.
     pub fn drop_first(&mut self)
-        requires { 0 < length (table_of self.old).rows }
-        ensures { table_of self.new ≡ drop_row (table_of self.old) }
+        requires { 0 < length self.old.rows }
+        ensures { self.new ≡ drop_row self.old }
     {
         let first = self.entry(0);
         self.drop_for(first.to);
@@ -60,43 +60,40 @@ impl EntryTable {
 
     // The entry, which lies at the fill, becomes the last one.
     fn append(&mut self, entry: Entry)
-        requires room { length (table_of self.old).rows < 64 }
-        requires place { entry.place ≡ (table_of self.old).fill }
-        requires fits { (table_of self.old).fill + entry.length < 2 ^ 64 }
-        ensures { table_of self.new ≡ append_row (table_of self.old) (row_of entry) }
+        requires room { length self.old.rows < 64 }
+        requires place { entry.place ≡ self.old.fill }
+        requires fits { self.old.fill + entry.length < 2 ^ 64 }
+        ensures { self.new ≡ append_row self.old (row_of entry) }
     {
-        self.entries[self.count] = entry;
-        self.count += 1;
+        self.entries.push(entry);
         self.fill += entry.length;
     }
 
     // Entry i has other bytes and another to name, and the entry after it leaves.
     fn take_over(&mut self, i: usize, byte_count: usize, to: Name)
-        requires two { i + 1 < length (table_of self.old).rows }
-        requires used { i + 1 < self.old.count }
-        requires fits { (unite_rows (table_of self.old) i byte_count).fill < 2 ^ 64 }
-        ensures { table_of self.new ≡ take_over (table_of self.old) i byte_count (name_of to) }
+        requires two { i + 1 < length self.old.rows }
+        requires fits { (unite_rows self.old i byte_count).fill < 2 ^ 64 }
+        ensures { self.new ≡ take_over self.old i byte_count (name_of to) }
     {
-        let earlier = self.entry(i);
-        let later = self.entry_after(i);
+        let later = self.entries.remove(i + 1);
         let old = later.place + later.length;
+        let entries = self.entries.as_mut_slice();
+        let earlier = &mut entries[i];
         let new = earlier.place + byte_count;
-        self.entries[i].unite(byte_count, to);
-        close_gap(&mut self.entries[i + 1..self.count], old, new);
-        self.count -= 1;
+        earlier.unite(byte_count, to);
+        shift_all(&mut entries[i + 1..], old, new);
         self.fill = new + (self.fill - old);
     }
 
     // Entry 0 leaves, and the base has another name.
     fn drop_for(&mut self, base: Name)
-        requires { 0 < length (table_of self.old).rows }
-        ensures { table_of self.new ≡ drop_for (table_of self.old) (name_of base) }
+        requires { 0 < length self.old.rows }
+        ensures { self.new ≡ drop_for self.old (name_of base) }
     {
-        let first = self.entry(0);
+        let first = self.entries.remove(0);
         let old = first.place + first.length;
-        close_gap(&mut self.entries[0..self.count], old, 0);
+        shift_all(&mut self.entries, old, 0);
         self.base = base;
-        self.count -= 1;
         self.fill -= old;
     }
 }

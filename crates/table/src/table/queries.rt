@@ -1,8 +1,7 @@
-ghost use Rattle.std.specs.Prelude.{◌≡◌, ◌+◌, ◌<◌, ◌≤◌, length};
+ghost use Rattle.std.specs.Prelude.{◌≡◌, ◌+◌, ◌<◌, ◌≤◌, map, length};
 ghost use Rattle.table.specs.Entries.{row_of};
-ghost use Rattle.table.specs.Held.{table_of, Live};
 ghost use Rattle.table.specs.Names.{name_of};
-ghost use Rattle.table.specs.Tables.{row_at, next_name, is_taken};
+ghost use Rattle.table.specs.Tables.{row_at, next_name, is_taken, LaidOut};
 
 use crate::entry::Entry;
 use crate::name::Name;
@@ -10,68 +9,60 @@ use crate::rows::{last_name, leads_to};
 use crate::table::EntryTable;
 
 impl EntryTable {
-    // The entries in use.
-    fn live(&self) -> &[Entry]
-        ensures { Live self.now result.now }
-    {
-        &self.entries[0..self.count]
-    }
-
-    // How many entries there are.
+    // How many entries there are. (Callers see a table's model and not its invariant: so what holds of
+    // every table is told here and where entries are handed out.)
     pub fn count(&self) -> usize
-        ensures { result ≡ length (table_of self.now).rows }
+        ensures count { result ≡ length self.now.rows }
+        ensures laid_out { LaidOut self.now }
     {
-        self.live().len()
+        self.entries.len()
     }
 
     // Where the entries' bytes end.
     pub fn fill(&self) -> usize
-        ensures { result ≡ (table_of self.now).fill }
+        ensures { result ≡ self.now.fill }
     {
         self.fill
     }
 
     // The name of the snapshot that the base image holds.
     pub fn base(&self) -> Name
-        ensures { name_of result ≡ (table_of self.now).base }
+        ensures { name_of result ≡ self.now.base }
     {
         self.base
     }
 
-    // Entry i. It lies within the fill, and the next one begins where it ends.
-    pub fn entry(&self, i: usize) -> Entry
-        requires { i < length (table_of self.now).rows }
-        ensures row { row_of result ≡ row_at (table_of self.now) i }
-        ensures inside { result.place + result.length ≤ (table_of self.now).fill }
-        ensures next { i + 1 < length (table_of self.now).rows → (row_at (table_of self.now) (i + 1)).place ≡ result.place + result.length }
+    // The entries in order.
+    pub fn entries(&self) -> &[Entry]
+        ensures rows { map row_of result.now ≡ self.now.rows }
+        ensures laid_out { LaidOut self.now }
     {
-        self.live()[i]
+        self.entries.as_slice()
     }
 
-    // Entry i + 1, which is in use.
-    pub(super) fn entry_after(&self, i: usize) -> Entry
-        requires { i + 1 < length (table_of self.now).rows }
-        ensures row { row_of result ≡ row_at (table_of self.now) (i + 1) }
-        ensures inside { result.place + result.length ≤ (table_of self.now).fill }
-        ensures used { i + 1 < self.now.count }
+    // Entry i. It lies within the fill, and the next one begins where it ends.
+    #[tactic(auto, using(std::proofs::lemmas::Grind::common_steps, crate::proofs::Held::inside, crate::proofs::Held::next))]
+    pub fn entry(&self, i: usize) -> Entry
+        requires { i < length self.now.rows }
+        ensures row { row_of result ≡ row_at self.now i }
+        ensures inside { result.place + result.length ≤ self.now.fill }
+        ensures next { i + 1 < length self.now.rows → (row_at self.now (i + 1)).place ≡ result.place + result.length }
+        ensures laid_out { LaidOut self.now }
     {
-        self.live()[i + 1]
+        self.entries[i]
     }
 
     // The name that the next stream has to lead from.
     pub fn next_name(&self) -> Name
-        ensures { name_of result ≡ next_name (table_of self.now) }
+        ensures { name_of result ≡ next_name self.now }
     {
-        last_name(self.base, self.live())
+        last_name(self.base, &self.entries)
     }
 
     // Whether the name is the base name or an entry's to name.
     pub fn is_taken(&self, name: &[u8]) -> bool
-        ensures { result ≡ is_taken name.now (table_of self.now) }
+        ensures { result ≡ is_taken name.now self.now }
     {
-        if self.base.is(name) {
-            return true;
-        }
-        leads_to(self.live(), name)
+        self.base.is(name) || leads_to(&self.entries, name)
     }
 }

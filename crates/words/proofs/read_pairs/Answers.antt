@@ -1,15 +1,11 @@
-use Rattle.std.proofs.Common.{◌≡◌, ◌*◌, ◌/◌, length, take, ap, ◌∙◌, arith}
-use Rattle.words.specs.Spelling.{digits_of}
-use Rattle.words.proofs.Spelled.{read_pair}
+use Rattle.std.proofs.Common.{◌≡◌, ◌/◌, length, take, ap, ◌∙◌, arith}
+use Rattle.std.proofs.lemmas.List.{take_all}
+use Rattle.std.specs.List.{flat_map}
+use Rattle.words.proofs.Spelled.{pairs_joined}
 use Rattle.words.proofs.read_pairs.Goals as goal
-
-pub loop-i-preserved : goal.loop-i-preserved
-loop-i-preserved c =
-    ap digits_of c.in_ok-push.ensures.items
-    ∙ read_pair c.args.text.now c.loop-i.bytes.items c.loop-i.i c.in_ok-high.high c.in_ok-low.low (omega arith) c.loop-i.invariant
-    c.in_ok-high.ensures.below c.in_ok-high.ensures.value c.in_ok-low.ensures.below c.in_ok-low.ensures.value
 
 pub returns : goal.returns
 returns c =
-    let n : c.loop-i.i ≡ length c.args.text.now / 2 = omega arith in
-    c.loop-i.invariant ∙ ap (λ k. take (2 * k) c.args.text.now) n
+    let pairs = c.as_chunks.result.0.now in
+    let all : take c.loop-high.high-index pairs ≡ pairs = take_all c.loop-high.high-index pairs (omega arith) in
+    c.loop-high.invariant ∙ ap (flat_map (λ p. p)) (all ∙ c.as_chunks.ensures.front) ∙ pairs_joined (length c.args.text.now / 2) c.args.text.now

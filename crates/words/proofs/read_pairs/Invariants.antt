@@ -1,6 +1,7 @@
-use Rattle.std.proofs.Common.{◌≡◌, ◌*◌, take}
+use Rattle.std.proofs.Common.{◌≡◌, take}
+use Rattle.std.specs.List.{flat_map}
 use Rattle.words.specs.Spelling.{digits_of}
 use Rattle.words.proofs.read_pairs.Given as goal
 
-abbrev pub invariant-loop-i : goal.invariant-loop-i
-invariant-loop-i l = digits_of l.bytes.items ≡ take (2 * l.i) l.text
+abbrev pub invariant-loop-high : goal.invariant-loop-high
+invariant-loop-high l = digits_of l.bytes.items ≡ flat_map (λ p. p) (take l.high-index l.pairs)

@@ -7,7 +7,7 @@ use Rattle.overlay.specs.declared.payloads.PayloadMark.TheVariants.{Zeroed}
 use Rattle.stream.specs.Places.{held}
 use Rattle.apply.specs.Steps.{numbered, writes}
 use Rattle.apply.specs.Applies.{apply_steps}
-use Rattle.apply.proofs.Cursors.{payload_getD}
+use Rattle.apply.proofs.Parted.{part_lies}
 use Rattle.apply.proofs.Turns.{goes_on, ends_here, writes_more}
 use Rattle.apply.proofs.ranges.write_parts.Goals as goal
 
@@ -17,14 +17,14 @@ none = record { offset = 0; length = 0; mark = Zeroed }
 
 pub write_part-requires : goal.write_part-requires
 write_part-requires g c =
-    (c.requires.0, payload_getD c.requires.0 c.args.stream.now c.args.parts.now c.loop-part.part-index none c.requires.1 c.loop-part-test.true)
+    part_lies c.args.stream.bytes.now c.args.stream.sheet.runs.now c.args.stream.sheet.size c.args.stream.parted c.loop-part.part-index none c.loop-part-test.true
 
 pub returns-in_err-write_part : goal.returns-in_err-write_part
 returns-in_err-write_part g c =
     let m = g.S.Store in
     let i = c.loop-part.part-index in
-    let xs = c.args.stream.now in
-    let parts = c.args.parts.now in
+    let xs = c.args.stream.bytes.now in
+    let parts = c.args.stream.sheet.runs.now in
     let n = c.args.record in
     let p = err_from_is_err_and c.from_residual.result c.from_residual.ensures.1 in
     record {
@@ -39,8 +39,8 @@ pub loop-part-preserved : goal.loop-part-preserved
 loop-part-preserved g c =
     let m = g.S.Store in
     let i = c.loop-part.part-index in
-    let xs = c.args.stream.now in
-    let parts = c.args.parts.now in
+    let xs = c.args.stream.bytes.now in
+    let parts = c.args.stream.sheet.runs.now in
     let n = c.args.record in (
       c.write_part.ensures.same ∙ c.loop-part.invariant.0,
       goes_on (m.holds c.args.store.now) (m.holds c.loop-part.store) (m.image c.loop-part.store) (m.image c.write_part.new.store) c.write_part.result
@@ -52,9 +52,9 @@ loop-part-preserved g c =
 pub returns : goal.returns
 returns g c =
     let m = g.S.Store in
-    let xs = c.args.stream.now in
+    let xs = c.args.stream.bytes.now in
     record {
       same = c.loop-part.invariant.0;
-      outcome = sym (at_drop_all (λ l. apply_steps (m.holds c.args.store.now) (m.image c.loop-part.store) (numbered c.args.record (writes (map (held xs) l)))) c.args.parts.now c.loop-part.part-index c.loop-part-test.false)
+      outcome = sym (at_drop_all (λ l. apply_steps (m.holds c.args.store.now) (m.image c.loop-part.store) (numbered c.args.record (writes (map (held xs) l)))) c.args.stream.sheet.runs.now c.loop-part.part-index c.loop-part-test.false)
           ∙ c.loop-part.invariant.1;
     }

@@ -9,5 +9,5 @@ abbrev pub invariant-loop-part : goal.invariant-loop-part
 invariant-loop-part g l =
     let m = g.S.Store in
     (m.holds l.store ≡ m.holds l.initial.store)
-    × (apply_steps (m.holds l.initial.store) (m.image l.store) (numbered l.record (writes (map (held l.stream) (drop l.part-index l.parts))))
-    ≡ apply_steps (m.holds l.initial.store) (m.image l.initial.store) (numbered l.record (writes (map (held l.stream) l.parts))))
+    × (apply_steps (m.holds l.initial.store) (m.image l.store) (numbered l.record (writes (map (held l.stream.bytes.now) (drop l.part-index l.stream.sheet.runs.now))))
+    ≡ apply_steps (m.holds l.initial.store) (m.image l.initial.store) (numbered l.record (writes (map (held l.stream.bytes.now) l.stream.sheet.runs.now))))

@@ -8,42 +8,42 @@ use Rattle.writer.specs.Fields.{opening}
 use Rattle.writer.proofs.Opening.{length_opening}
 use Rattle.writer.proofs.Tail.{lent_on, patched_on}
 use Rattle.join.specs.Lengths.{records_length}
-use Rattle.join.specs.Parts.{joined_cells, AllRanged}
+use Rattle.join.specs.Parts.{joined_cells, joined_difference, AllRanged}
 use Rattle.join.proofs.Payloads.{length_cells}
 use Rattle.join.proofs.Records.{parts_rise, parts_ranged, length_records, canonical_is}
 use Rattle.join.proofs.writing.put_stream.Goals as goal
 
-pub put_records-end-requires : goal.put_records-end-requires
-put_records-end-requires c =
+pub put_records-end-requires-clause-rising : goal.put_records-end-requires-clause-rising
+put_records-end-requires-clause-rising c =
     let j = c.args.joined in
-    record {
-      lie = c.requires.lie;
-      small = c.requires.small;
-      rising = subst (λ rs. Rising 0 rs j.size) (sym c.requires.ranged) (parts_rise j.earlier.now j.later.now j.parts.now j.size (omega arith));
-      alike = subst (AllRanged j.parts.now j.size) (sym c.requires.ranged) (parts_ranged j.earlier.now j.later.now j.parts.now j.size (omega arith));
-      room = omega (arith, c.requires.room, c.from_length.ensures.exact);
-    }
+    subst (λ rs. Rising 0 rs j.sheet.size) (sym c.requires.ranged) (parts_rise j.earlier.now j.later.now j.sheet.runs.now j.sheet.size (omega (arith, j.small)))
+
+pub put_records-end-requires-clause-alike : goal.put_records-end-requires-clause-alike
+put_records-end-requires-clause-alike c =
+    let j = c.args.joined in
+    subst (AllRanged j.sheet.runs.now j.sheet.size) (sym c.requires.ranged) (parts_ranged j.earlier.now j.later.now j.sheet.runs.now j.sheet.size (omega (arith, j.small)))
 
 pub returns : goal.returns
 returns c =
     let xs = c.args.out.now in
     let j = c.args.joined in
     let rs = c.args.records.now in
-    let from = c.args.from.now in
-    let to = c.args.to.now in
+    let from = j.from.now in
+    let to = j.to.now in
     let cells = joined_cells j in
-    let op = opening from to j.size in
+    let op = opening from to j.sheet.size in
     let recs = encodings (map (content_of cells) rs) in
-    let start = 26 + c.from_length.result + length to in
-    let lc : length cells ≡ j.size = length_cells j.earlier.now j.later.now j.parts.now j.size in
-    let lo : length op ≡ start = length_opening from to j.size ∙ omega (arith, c.from_length.ensures.exact) in
-    let rise = subst (λ q. Rising 0 q j.size) (sym c.requires.ranged) (parts_rise j.earlier.now j.later.now j.parts.now j.size (omega arith)) in
-    let lr : length recs ≡ records_length rs = length_records cells 0 j.size rs rise (omega arith) in
+    let start = c.length.result in
+    let lc : length cells ≡ j.sheet.size = length_cells j.earlier.now j.later.now j.sheet.runs.now j.sheet.size in
+    let lo : length op ≡ start = sym c.length.ensures.exact in
+    let long = length_opening from to j.sheet.size in
+    let rise = subst (λ q. Rising 0 q j.sheet.size) (sym c.requires.ranged) (parts_rise j.earlier.now j.later.now j.sheet.runs.now j.sheet.size (omega (arith, j.small))) in
+    let lr : length recs ≡ records_length rs = length_records cells 0 j.sheet.size rs rise (omega arith) in
     let lb : length (op ++ recs) ≡ start + records_length rs = length-append op recs ∙ omega arith in
     let is = ap (λ n. (opening from to n ++ recs) ++ 101 ∷ []) (sym lc) ∙ ap (λ q. (opening from to (length cells) ++ encodings (map (content_of cells) q)) ++ 101 ∷ []) c.requires.ranged
-    ∙ sym (canonical_is (record { from = from; to = to; cells = cells })) in
+    ∙ sym (canonical_is (joined_difference j)) in
     let w : c.put_records-end.new.out ≡ patched xs 0 (op ++ recs) =
-    c.put_records-end.ensures.buffer ∙ ap (λ q. patched q start recs) c.put_opening.ensures ∙ ap (λ k. patched (patched xs 0 op) k recs) (sym lo ∙ omega arith) ∙ patched_on xs op recs 0 (omega (arith, c.requires.room, c.from_length.ensures.exact)) in
+    c.put_records-end.ensures.buffer ∙ ap (λ q. patched q start recs) c.put.ensures ∙ ap (λ k. patched (patched xs 0 op) k recs) (sym lo ∙ omega arith) ∙ patched_on xs op recs 0 (omega (arith, c.requires.room)) in
     let end : List ℕ = 101 ∷ [] in
-    lent_on xs c.put_records-end.new.out c.put_u8.new.tail (op ++ recs) end 0 c.put_records-end.result w (omega (arith, c.put_records-end.ensures.end)) (omega (arith, c.put_records-end.ensures.end, c.requires.room, c.from_length.ensures.exact)) c.put_u8.ensures
+    lent_on xs c.put_records-end.new.out c.put_u8.new.tail (op ++ recs) end 0 c.put_records-end.result w (omega (arith, c.put_records-end.ensures.end)) (omega (arith, c.put_records-end.ensures.end, c.requires.room, long)) c.put_u8.ensures
     ∙ ap (λ q. patched xs 0 q) is

@@ -7,7 +7,6 @@ use Rattle.stream.specs.Bytes.{patched}
 use Rattle.writer.proofs.Tail.{lent_on}
 use Rattle.listing.specs.Text.{line, line_end}
 use Rattle.listing.proofs.Lines.{length_line, length_line_end}
-use Rattle.listing.proofs.Rooms.{tail_room, patched_room}
 use Rattle.listing.proofs.text.put_line.Goals as goal
 
 -- the buffer after the space, and after the second number
@@ -30,50 +29,6 @@ module _ (xs : List ℕ) (run : Run RangeMark) (fits : length (line run) ≤ len
   regrouped : (front ++ decimal run.length) ++ line_end run.mark ≡ line run
   unfolding front
   regrouped = append_assoc (decimal run.offset ++ (32 ∷ [])) (decimal run.length) (line_end run.mark) ∙ append_assoc (decimal run.offset) (32 ∷ []) (decimal run.length ++ line_end run.mark)
-
-pub put_number-space-requires : goal.put_number-space-requires
-put_number-space-requires c = let l = length_line c.args.run in omega arith
-
-pub slice_bounds-put_u8-count : goal.slice_bounds-put_u8-count
-slice_bounds-put_u8-count c = let l = length_line c.args.run in omega arith
-
-pub slice_bounds-put_u8-start : goal.slice_bounds-put_u8-start
-slice_bounds-put_u8-start c = let l = length_line c.args.run in omega arith
-
-pub put_u8-requires : goal.put_u8-requires
-put_u8-requires c = let l = length_line c.args.run in tail_room c.put_number-space.new.tail c.put_number-space.result 1 (omega arith)
-
-pub put_number-requires : goal.put_number-requires
-put_number-requires c =
-    let xs = c.args.tail.now in
-    let run = c.args.run in
-    let n = c.put_number-space in
-    let l = length_line run in
-    let f = length_front xs run c.requires n.new.tail c.put_u8.new.tail n.result n.ensures.buffer n.ensures.taken in
-    let s = spaced xs run c.requires n.new.tail c.put_u8.new.tail n.result n.ensures.buffer n.ensures.taken c.put_u8.ensures in
-    patched_room xs _ (front xs run c.requires n.new.tail c.put_u8.new.tail n.result n.ensures.buffer n.ensures.taken) 0 (n.result + 1) (length (decimal run.length)) s (omega arith) (omega arith)
-
-pub overflow_add-kind : goal.overflow_add-kind
-overflow_add-kind c = let l = length_line c.args.run in omega arith
-
-pub slice_bounds-put_kind-count : goal.slice_bounds-put_kind-count
-slice_bounds-put_kind-count c = let l = length_line c.args.run in omega arith
-
-pub slice_bounds-put_kind-start : goal.slice_bounds-put_kind-start
-slice_bounds-put_kind-start c = let l = length_line c.args.run in omega arith
-
-pub put_kind-requires : goal.put_kind-requires
-put_kind-requires c =
-    let xs = c.args.tail.now in
-    let run = c.args.run in
-    let n = c.put_number-space in
-    let l = length_line run in
-    let f = length_front xs run c.requires n.new.tail c.put_u8.new.tail n.result n.ensures.buffer n.ensures.taken in
-    let s = spaced xs run c.requires n.new.tail c.put_u8.new.tail n.result n.ensures.buffer n.ensures.taken c.put_u8.ensures in
-    let b = both xs run c.requires n.new.tail c.put_u8.new.tail n.result n.ensures.buffer n.ensures.taken _ _ s c.put_number.ensures.buffer in
-    let g = length-append (front xs run c.requires n.new.tail c.put_u8.new.tail n.result n.ensures.buffer n.ensures.taken) (decimal run.length) in
-    let t = c.put_number.ensures.taken in
-    patched_room xs _ (front xs run c.requires n.new.tail c.put_u8.new.tail n.result n.ensures.buffer n.ensures.taken ++ decimal run.length) 0 (n.result + 1 + c.put_number.result) 6 b (omega arith) (omega arith)
 
 pub returns : goal.returns
 returns c =

@@ -16,28 +16,6 @@ loop-run-init c =
     let k = ap length c.put_bytes.ensures ∙ length_patched c.args.out.now heading 0 (omega arith) in
     (refl, sym (patched_none c.put_bytes.new.tail 19), omega arith)
 
-pub slice_bounds-put_line-count : goal.slice_bounds-put_line-count
-slice_bounds-put_line-count c =
-    let v = c.loop-run.invariant in
-    let rs = c.args.ranges.now in
-    let i = c.loop-run.run-index in
-    let r = lines_room rs i c.loop-run-test.true in
-    let a = v.0 in
-    let b = v.2 in
-    let k = ap length v.1 ∙ length_patched c.put_bytes.new.tail (lines (take i rs)) 19 (omega arith) in
-    omega arith
-
-pub slice_bounds-put_line-start : goal.slice_bounds-put_line-start
-slice_bounds-put_line-start c =
-    let v = c.loop-run.invariant in
-    let rs = c.args.ranges.now in
-    let i = c.loop-run.run-index in
-    let r = lines_room rs i c.loop-run-test.true in
-    let a = v.0 in
-    let b = v.2 in
-    let k = ap length v.1 ∙ length_patched c.put_bytes.new.tail (lines (take i rs)) 19 (omega arith) in
-    omega arith
-
 pub put_line-at-requires : goal.put_line-at-requires
 put_line-at-requires c =
     let v = c.loop-run.invariant in
@@ -47,17 +25,6 @@ put_line-at-requires c =
     let a = v.0 in
     let b = v.2 in
     patched_room c.put_bytes.new.tail c.loop-run.out (lines (take i rs)) 19 c.loop-run.at (length (line (get_or rs i none))) v.1 (omega arith) (omega arith)
-
-pub overflow_add-at : goal.overflow_add-at
-overflow_add-at c =
-    let v = c.loop-run.invariant in
-    let rs = c.args.ranges.now in
-    let i = c.loop-run.run-index in
-    let r = lines_room rs i c.loop-run-test.true in
-    let a = v.0 in
-    let b = v.2 in
-    let k = ap length v.1 ∙ length_patched c.put_bytes.new.tail (lines (take i rs)) 19 (omega arith) in
-    omega arith
 
 pub loop-run-preserved : goal.loop-run-preserved
 loop-run-preserved c =

@@ -1,60 +1,65 @@
-use Rattle.std.proofs.Common.{◌+◌, ◌-◌, ◌<◌, length, refl, arith}
-use Rattle.std.proofs.lemmas.List.{take_more_set, length-set, drop-set-lt}
-use Rattle.overlay.proofs.Painted.{rising_last}
-use Rattle.overlay.proofs.Pushing.{last_split, last_stored, longer, push_merged, added_first, added_next}
+use Rattle.std.proofs.Common.{◌≡◌, ◌+◌, ◌-◌, ◌<◌, [], ◌∷◌, ◌++◌, length, take, drop, set, refl, ap, ◌∙◌, arith, length-append, length-take}
+use Rattle.std.proofs.lemmas.List.{take_more_set, take-append-drop, set-get_or, length-set}
 use Rattle.std.proofs.lemmas.Bool.Decides.{not_from_Decides}
+use Rattle.overlay.specs.declared.runs.Run.{Run}
+use Rattle.overlay.specs.Walks.{Pushed}
+use Rattle.overlay.proofs.Pushing.{taken, longer, last_under, merged, added_first, added_next}
+use Rattle.overlay.proofs.overlays.push.Given.{Over}
 use Rattle.overlay.proofs.overlays.push.Goals as goal
-use Rattle.overlay.proofs.overlays.push.Goals.{then-k-gt0+else-continues, else-k-gt0}
+use Rattle.overlay.proofs.overlays.push.Goals.{Joined-out-k-lt1, in_default, in-len1-up+else-continues}
 
 pub continues-requires : goal.continues-requires
 continues-requires g c =
-    let split = last_split c.args.out.now c.args.k c.index-out-k.result (omega arith) c.requires.within c.index-out-k.is in
-    let t = rising_last 0 c.args.r.offset _ c.index-out-k.result (rw split at c.requires.rising) in
-    omega (arith, t.under, c.requires.fits)
+    let l = c.index-out-out.result in
+    let under = last_under g.M.Mark.moves g.met.M.Mark.further (take c.args.k c.args.out.now) c.args.run c.requires.rising c.requires.apart c.requires.some l c.in-len1-up.len_at_least c.index-out-out.is in
+    rw (← c.index-out-out.is) (omega (arith, under, c.requires.fits))
 
-pub returns-then-continues : goal.returns-then-continues
-returns-then-continues g c =
-    let l = c.index-out-k.result in
-    let split = last_split c.args.out.now c.args.k l (omega arith) c.requires.within c.index-out-k.is in
+pub returns-then-continues-clause-counted : goal.returns-then-continues-clause-counted
+returns-then-continues-clause-counted g c =
+    let xs = take c.args.k c.args.out.now in
+    let l = c.index-out-out.result in
     let on = c.if-continues.ensures.0 refl in
-    record {
-      counted = (
-        simp length-set c.requires.within,
-        rw (split, last_stored c.args.out.now c.args.k _ c.if-k-gt0.true c.requires.within)
-            (push_merged g.M.Mark.moves g.met.M.Mark.further _ l c.args.r _ (rw split at c.requires.rising) (rw split at c.requires.apart) c.requires.some c.requires.fits on.0 on.1 refl refl refl),
-      );
-      behind = (omega arith, drop-set-lt c.args.k c.args.out.now (c.args.k - 1) _ (omega arith));
-    }
+    let long : length xs ≡ c.args.k = simp length-take (omega arith) in
+    let one = merged g.M.Mark.moves g.met.M.Mark.further xs c.args.run c.requires.rising c.requires.apart c.requires.some l c.in-len1-up.len_at_least c.index-out-out.is c.requires.fits
+    (rw (← c.index-out-out.is) at on) in
+    let m : Run g.row.M.Denot = record { offset = l.offset; length = l.length + c.args.run.length; mark = l.mark } in
+    let same : length (set xs (length xs - 1) m) ≡ c.args.k = simp length-set long in
+    rw (← c.index-out-out.is)
+    (simp (length-append, length-set) (omega arith), rw (taken c.args.k (set xs (length xs - 1) m) (drop c.args.k c.args.out.now) same) one)
 
-pub returns-then-k-out : goal.returns-then-k-out
-returns-then-k-out g c =
-    let added-a = added_first g.M.Mark.moves g.met.M.Mark.further c.args.out.now c.args.k c.args.r c.requires.within c.requires.rising c.requires.apart c.requires.some in
-    let added-b = added_next g.M.Mark.moves g.met.M.Mark.further c.args.out.now c.args.k c.args.r c.requires.within c.requires.rising c.requires.apart c.requires.some in
-    record {
-      counted = (
-        _,
-        longer c.args.out.now c.args.k c.args.r c.if-k-out.true,
-        elim c.if-k-gt0.branch [
-          | then-k-gt0+else-continues w ↦ added-b w.index-out-k.result w.if-k-gt0.true w.index-out-k.is (not_from_Decides _ w.continues.ensures w.if-continues.false)
-          | else-k-gt0 w ↦ added-a w.if-k-gt0.false
-        ],
-      );
-      behind = tt;
-    }
+-- the buffer is as it was, and the run is added
+record Added (g : Over) (c : Joined-out-k-lt1 g) : Type 0 where
+  same : c.if-out-k-lt1.out ≡ c.args.out.now
+  pushed : Pushed g.M.Mark.moves (take c.args.k c.args.out.now) c.args.run (take c.args.k c.args.out.now ++ c.args.run ∷ [])
 
-pub returns : goal.returns
-returns g c =
-    let lt : c.args.k < length c.args.out.now = omega (arith, c.requires.within, c.if-k-out.false) in
-    let added-a = added_first g.M.Mark.moves g.met.M.Mark.further c.args.out.now c.args.k c.args.r c.requires.within c.requires.rising c.requires.apart c.requires.some in
-    let added-b = added_next g.M.Mark.moves g.met.M.Mark.further c.args.out.now c.args.k c.args.r c.requires.within c.requires.rising c.requires.apart c.requires.some in
-    record {
-      counted = (
-        simp length-set (omega arith),
-        rw (take_more_set c.args.out.now c.args.k c.args.r lt)
-            (elim c.if-k-gt0.branch [
-              | then-k-gt0+else-continues w ↦ added-b w.index-out-k.result w.if-k-gt0.true w.index-out-k.is (not_from_Decides _ w.continues.ensures w.if-continues.false)
-              | else-k-gt0 w ↦ added-a w.if-k-gt0.false
-            ]),
-      );
-      behind = (omega arith, drop-set-lt (c.args.k + 1) c.args.out.now c.args.k c.args.r (omega arith));
-    }
+added : (g : Over) (c : Joined-out-k-lt1 g) → Added g c
+added g c =
+    let out = c.args.out.now in
+    let xs = take c.args.k c.args.out.now in
+    elim c.if-out-k-lt1.branch [
+      | in_default w ↦
+          record {
+            same = w.out-is ∙ take-append-drop c.args.k out;
+            pushed = added_first g.M.Mark.moves g.met.M.Mark.further xs c.args.run c.requires.rising c.requires.apart c.requires.some w.in_default.len_below;
+          }
+      | in-len1-up+else-continues w ↦
+          let l = w.index-out-out.result in
+          record {
+            same = w.out-is ∙ ap (λ ys. ys ++ drop c.args.k out) (set-get_or xs (length xs - 1) l) ∙ take-append-drop c.args.k out;
+            pushed =
+                added_next g.M.Mark.moves g.met.M.Mark.further xs c.args.run c.requires.rising c.requires.apart c.requires.some l w.in-len1-up.len_at_least w.index-out-out.is
+                (rw (← w.index-out-out.is) at (not_from_Decides _ w.continues.ensures w.if-continues.false));
+          }
+    ]
+
+pub returns-then-k-out-clause-counted : goal.returns-then-k-out-clause-counted
+returns-then-k-out-clause-counted g c =
+    let it = added g (goal.at.returns-then-k-out-clause-counted g c).Joined-out-k-lt1 in
+    (_, rw c.if-out-k-lt1.auto.out (longer c.args.out.now c.args.k c.args.run (omega arith)), it.pushed)
+
+pub returns-clause-counted : goal.returns-clause-counted
+returns-clause-counted g c =
+    let it = added g (goal.at.returns-clause-counted g c).Joined-out-k-lt1 in
+    let long : length c.if-out-k-lt1.out ≡ length c.args.out.now = c.if-out-k-lt1.auto.out in
+    let room : c.args.k < length c.args.out.now = omega (arith, c.requires.within, c.if-k-out.false) in
+    rw it.same (simp length-set (omega arith), rw (take_more_set c.args.out.now c.args.k c.args.run room) it.pushed)

@@ -13,10 +13,14 @@ loop-i-preserved g c =
     let i = c.loop-i.i in
     let n = length c.args.answers.now in
     let made = c.make_call.ensures in
-    let here : i < n = omega arith in (
+    let k = c.min-count.result in
+    let xs = c.args.requests.now in
+    let under : i < k = omega (arith, length-take k xs) in
+    let here : i < n = omega (arith, length-take k xs) in (
       made.same ∙ c.loop-i.invariant.0,
       one_more _ _ _ _ i (scene c.loop-i.shelf c.loop-i.bytes (m.image c.loop-i.base) c.loop-i.buffer) c.loop-i.answers c.loop-i.invariant.1
-          (m.holds c.loop-i.base) c.loop-i.invariant.0 _ _ c.make_call.result _ (omega (arith, length-take n c.args.requests.now)) (omega (arith, c.loop-i.auto.answers)) (sym (get_or-take n c.args.requests.now i _ here)) made.answer made.left,
+          (m.holds c.loop-i.base) c.loop-i.invariant.0 _ _ c.make_call.result _ (omega (arith, length-take n xs, length-take k xs)) (omega (arith, c.loop-i.auto.answers, length-take k xs))
+          (get_or-take k xs i _ under ∙ sym (get_or-take n xs i _ here)) made.answer made.left,
     )
 
 pub returns : goal.returns
@@ -25,5 +29,5 @@ returns g c =
     let n = length c.args.answers.now in
     record {
       same = c.loop-i.invariant.0;
-      played = ended _ _ _ _ c.loop-i.i (scene c.loop-i.shelf c.loop-i.bytes (m.image c.loop-i.base) c.loop-i.buffer) c.loop-i.answers c.loop-i.invariant.1 (omega (arith, length-take n c.args.requests.now));
+      played = ended _ _ _ _ c.loop-i.i (scene c.loop-i.shelf c.loop-i.bytes (m.image c.loop-i.base) c.loop-i.buffer) c.loop-i.answers c.loop-i.invariant.1 (omega (arith, length-take n c.args.requests.now, length-take c.min-count.result c.args.requests.now));
     }

@@ -5,23 +5,14 @@ use Rattle.stream.proofs.Back.{same_back}
 use Rattle.table.specs.Entries.{row_of}
 use Rattle.join.specs.Sources.{source_difference}
 use Rattle.shelf.specs.Entries.{is_whole}
-use Rattle.shelf.proofs.Reading.{row_whole}
 use Rattle.shelf.proofs.entries.read_row.Goals as goal
 
 pub is_whole-requires : goal.is_whole-requires
-is_whole-requires c =
-    let e = c.in_ok-source.ensures in
-    record { read = (c.args.side, e.sourced); means = ap meaning e.bytes ∙ sym e.means }
+is_whole-requires c = ap meaning c.in_ok-source.ensures.bytes ∙ sym c.in_ok-source.ensures.means
 
-pub returns : goal.returns
-returns c =
+pub returns-clause-own : goal.returns-clause-own
+returns-clause-own c =
+    let s = c.in_ok-source.source in
     let e = c.in_ok-source.ensures in
-    let d = source_difference c.in_ok-source.source in
-    let r = row_of c.args.row in
-    let own = c.in_ok-source.source.bytes.now in
-    let whole : is_whole r own d ≡ true = sym c.if-not-is_whole.ensures in
-    record {
-      means = sym (row_whole r c.args.stream.now d (sym e.means) (sym (ap (λ xs. is_whole r xs d) e.bytes) ∙ whole));
-      sourced = e.sourced;
-      own = record { means = ap meaning e.bytes ∙ sym e.means; own = same_back (canonical d) own (and_parts _ _ whole).0 };
-    }
+    let whole : is_whole (row_of c.args.row) s.bytes.now (source_difference s) ≡ true = sym c.if-not-is_whole.ensures in
+    record { means = ap meaning e.bytes ∙ sym e.means; own = same_back (canonical (source_difference s)) s.bytes.now (and_parts _ _ whole).0 }

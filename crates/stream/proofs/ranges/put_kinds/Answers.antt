@@ -6,7 +6,7 @@ use Rattle.overlay.specs.declared.payloads.PayloadMark.{PayloadMark}
 use Rattle.overlay.specs.declared.payloads.PayloadMark.TheVariants.{Zeroed}
 use Rattle.overlay.specs.Runs.{remarked}
 use Rattle.overlay.proofs.Pushing.{drop_further}
-use Rattle.stream.specs.Parts.{range_of}
+use Rattle.overlay.specs.Marks.{range_of}
 use Rattle.stream.proofs.ranges.put_kinds.Goals as goal
 
 -- the run that a read past the end would give
@@ -30,7 +30,7 @@ pub loop-i-preserved : goal.loop-i-preserved
 loop-i-preserved c =
     let i = c.loop-i.i in
     let out = c.loop-i.out in (
-      one_more c.args.parts.now out i c.kind_of.result c.loop-i-test.true (omega arith) c.kind_of.ensures c.loop-i.invariant.0,
+      one_more c.args.parts.now out i c.into.result c.loop-i-test.true (omega arith) c.into.ensures c.loop-i.invariant.0,
       drop-set-lt (i + 1) out i _ (omega arith) ∙ drop_further i (i + 1) out c.args.out.now (omega arith) c.loop-i.invariant.1,
     )
 

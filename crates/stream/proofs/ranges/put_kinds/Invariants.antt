@@ -1,6 +1,6 @@
 use Rattle.std.proofs.Common.{◌≡◌, map, take, drop}
 use Rattle.overlay.specs.Runs.{remarked}
-use Rattle.stream.specs.Parts.{range_of}
+use Rattle.overlay.specs.Marks.{range_of}
 use Rattle.stream.proofs.ranges.put_kinds.Given as goal
 
 abbrev pub invariant-loop-i : goal.invariant-loop-i

@@ -1,31 +1,23 @@
-use Rattle.std.proofs.Common.{◌≡◌, ◌-◌, [], take, Ok, sym, refl, ap, ◌∙◌, arith}
+use Rattle.std.proofs.Common.{[], take, Ok, sym, refl, ap, ◌∙◌}
 use Rattle.std.proofs.lemmas.Result.{err_from_is_err_and}
 use Rattle.fault.specs.Fault.{then}
 use Rattle.stream.specs.Meaning.{cells, ranges}
-use Rattle.stream.specs.Parts.{part_ranges}
 use Rattle.stream.specs.Told.{stream_ranges}
 use Rattle.stream.proofs.Ranged.{gathered_err, part_ranges_are}
 use Rattle.stream.proofs.ranges.ranges_in.Goals as goal
 
-pub returns-in_err-summary : goal.returns-in_err-summary
+pub returns-in_err-summary-clause-read : goal.returns-in_err-summary-clause-read
 unfolding stream_ranges
-returns-in_err-summary c =
+returns-in_err-summary-clause-read c =
     let y = err_from_is_err_and c.from_residual.result c.from_residual.ensures.1 in
     let v = gathered_err _ _ _ _ _ c.in_err-summary.ensures.result in
-    rw (y.1, y.2) (record { within = tt; read = sym (ap (λ o. then o (λ cs. Ok (ranges (cells cs)))) v) })
+    rw (y.1, y.2) (sym (ap (λ o. then o (λ cs. Ok (ranges (cells cs)))) v))
 
-pub returns : goal.returns
+pub returns-clause-read : goal.returns-clause-read
 unfolding stream_ranges
-returns c =
+returns-clause-read c =
     let t = c.in_ok-summary.ensures.told in
     let s = c.in_ok-summary.summary in
     let xs = c.args.stream.now in
-    let parts = take s.count c.read.new.out in
-    let e : part_ranges (take (s.count - 0) c.read.new.out) s.size ≡ ranges (cells t.records) =
-    ap (λ k. part_ranges (take k c.read.new.out) s.size) (omega arith)
-    ∙ sym (part_ranges_are [] xs parts s.size)
-    ∙ ap ranges (t.stands.means [] xs refl) in
-    record {
-      within = c.overlay_nothing.ensures.within;
-      read = ap Ok (c.overlay_nothing.ensures.ranges ∙ e) ∙ sym (ap (λ o. then o (λ cs. Ok (ranges (cells cs)))) t.was_read);
-    }
+    let e = sym (part_ranges_are [] xs (take s.count c.read.new.out) s.size) ∙ ap ranges (t.stands.means [] xs refl) in
+    ap Ok (c.overlay_nothing.ensures.ranges ∙ e) ∙ sym (ap (λ o. then o (λ cs. Ok (ranges (cells cs)))) t.was_read)

@@ -1,82 +1,88 @@
-use Rattle.std.proofs.Common.{◌≡◌, ℕ, suc, ◌-◌, length, drop, Ok, sym, refl, ap, ◌∙◌, subst, ap₂, arith, length-drop}
+use Rattle.std.proofs.Common.{◌≡◌, suc, ◌-◌, length, Ok, sym, ap, ◌∙◌, ap₂, arith}
 use Rattle.std.proofs.lemmas.Result.{err_from_is_err_and}
-use Rattle.stream.specs.Steps.{step_of, Lies}
 use Rattle.stream.specs.Verdict.{reads}
-use Rattle.stream.specs.Gathered.{gathered_from, gathered_of}
+use Rattle.stream.specs.Gathered.{gathered_from, gathered_of, none}
 use Rattle.stream.specs.Stands.{pos_of, rest_of}
-use Rattle.stream.proofs.Ran.{stepped, refused, ends, ends_early}
-use Rattle.stream.proofs.Gathers.{gathers_on, counted, has_room}
+use Rattle.stream.proofs.Ran.{begun, reads_on, reads_none, reads_fault}
+use Rattle.stream.proofs.Gathers.{taken_noted, counted, has_room}
 use Rattle.stream.proofs.reading.gather.Goals as goal
 
-pub records-init : goal.records-init
-records-init c = (refl, sym c.requires.1, omega arith, (length c.args.reader.now.bytes.now, omega arith, refl))
+pub loop-record-init : goal.loop-record-init
+loop-record-init c =
+    let b = begun c.args.stream.now _ c.in_ok-reader.reader c.open.ensures c.in_ok-reader.was in
+    let place = sym (ap (λ p. p.place) b.1) in (
+      b.0,
+      ap (λ p. p.count) b.1,
+      omega arith,
+      (
+        length c.in_ok-reader.reader.bytes.now,
+        let l = ap length b.0 in omega arith,
+        ap₂ (gathered_from c.args.side none) place b.2,
+      ),
+    )
 
-pub returns-in_err-record : goal.returns-in_err-record
-returns-in_err-record c =
-    let n = length c.args.reader.now.bytes.now in
-    let p = pos_of c.records.reader in
-    let rest = rest_of c.records.reader in
-    let b = ap length (ap (λ x. x.now) c.records.invariant.0) in
-    let k = c.records.invariant.3.0 in
-    let y = err_from_is_err_and c.from_residual.result c.from_residual.ensures.1 in
-    let s = refused (reads k n) n _ p.place rest (step_of p rest) _ _ b c.step.ensures.result c.in_err-record.was in
-    let g = sym (ap (gathered_from c.args.side (gathered_of c.records.summary c.records.out) p.place) s) ∙ c.records.invariant.3.2 in
-    rw (y.1, y.2) (record { few = tt; gathers = g })
+pub returns-in_err-record-clause-gathers : goal.returns-in_err-record-clause-gathers
+returns-in_err-record-clause-gathers c =
+    let y = err_from_is_err_and c.from_residual-in_err-record.result c.from_residual-in_err-record.ensures.1 in
+    let i = c.loop-record.invariant.3 in
+    let old = c.loop-record.reader in
+    let f = reads_fault i.0 old c.next.new.self c.next.result _ c.next.ensures c.in_err-record.was in
+    rw (y.1, y.2) (sym (ap (gathered_from c.args.side (gathered_of c.loop-record.summary c.loop-record.out) old.place) f) ∙ i.2)
 
-pub records-preserved : goal.records-preserved
-records-preserved c =
-    let xs = c.args.reader.now.bytes.now in
-    let n = length xs in
-    let p = pos_of c.records.reader in
-    let q = pos_of c.step.new.self in
-    let rest = rest_of c.records.reader in
-    let r = c.in_ok-record.record in
-    let b = ap (λ x. x.now) c.records.invariant.0 in
-    let e = c.step.ensures.bytes ∙ c.records.invariant.0 in
-    let k = c.records.invariant.3.0 in
-    let h = c.records.invariant.3.1 in
-    let o = c.in_ok-record.ensures.onward in
+pub loop-record-preserved : goal.loop-record-preserved
+loop-record-preserved c =
+    let old = c.loop-record.reader in
+    let new = c.next.new.self in
+    let s = c.loop-record.summary in
+    let out = c.loop-record.out in
+    let r = c.in-Some.record in
+    let i = c.loop-record.invariant.3 in
+    let k = i.0 in
+    let p = pos_of old in
+    let q = pos_of new in
+    let t = reads_on k old new c.next.result r c.next.ensures (c.in_ok-record.was ∙ ap Ok c.in-Some.is) in
+    let lie = t.2 in
+    let n = length (rest_of old) in
+    let b = ap (λ x. x.now) c.next.ensures.bytes ∙ c.loop-record.invariant.0 in
     let l = ap length b in
-    let d = length-drop p.place c.records.reader.bytes.now in
-    let P : ℕ → Type 0 = λ t. Lies p t r q in
-    let lie = subst P (sym d) c.in_ok-record.ensures.lies in
-    let ne = c.in_default.not-End in
-    let s = stepped _ (step_of p rest) p q _ _ c.step.ensures.result c.step.ensures.stands c.in_ok-record.was in
-    let k' : k ≡ suc (k - 1) = omega arith in
-    let room = has_room p q (length rest) (length c.records.out) r c.records.summary lie c.records.invariant.1 (omega arith) in
-    let g = gathers_on c.args.side k n xs rest (step_of p rest) r p q c.records.summary c.records.out s ne (ap (drop p.place) b) (omega arith) lie room in
-    let t = counted p q (length rest) r c.records.summary lie ne c.records.invariant.1 c.records.invariant.2 in
-    let a = ap₂ (λ v w. gathered_from c.args.side (gathered_of v w) q.place (reads k n q (drop q.place xs))) c.note-summary.ensures.summary c.note-summary.ensures.runs in
-    let G = gathered_of c.note-summary.result c.note-summary.new.out in
-    let m = ap (λ v. gathered_from c.args.side G q.place (reads v n q (drop q.place xs))) (sym k') in
-    let f = ap (λ v. gathered_from c.args.side G q.place (reads (suc (k - 1)) n q (drop q.place v.now))) e in
-    let z = ap (λ v. v.count) c.note-summary.ensures.summary ∙ t.0 in
-    (e, z, t.1, (k - 1, omega arith, f ∙ m ∙ a ∙ sym g ∙ c.records.invariant.3.2))
+    let w = new.within in
+    let m = t.3 in
+    let h = i.1 in
+    let k' : suc (k - 1) ≡ k = omega arith in
+    let room = has_room p q n (length out) r s lie c.loop-record.invariant.1 (omega arith) in
+    let few = counted p q n r s lie t.1 c.loop-record.invariant.1 (let a = c.loop-record.invariant.1 in let b = c.loop-record.invariant.2 in omega arith) in
+    let e = ap (λ v. v.count) c.note.ensures.summary in
+    let G = gathered_of c.note.new.self c.note.new.out in
+    let F = gathered_from c.args.side in
+    let on = reads k (length new.bytes.now) q (rest_of new) in
+    let g = taken_noted c.args.side p q r (rest_of old) s out on (length old.bytes.now) lie room t.1 in (
+      b,
+      e ∙ few.0,
+      (let a = few.0 in let b = few.1 in omega arith),
+      (
+        k - 1,
+        omega arith,
+        ap (λ v. F G new.place (reads v (length new.bytes.now) q (rest_of new))) k'
+            ∙ ap₂ (λ v w. F (gathered_of v w) new.place on) c.note.ensures.summary c.note.ensures.runs
+            ∙ sym g
+            ∙ sym (ap (F (gathered_of s out) old.place) t.0)
+            ∙ i.2,
+      ),
+    )
 
-pub returns-then-reader : goal.returns-then-reader
-returns-then-reader c =
-    let n = length c.args.reader.now.bytes.now in
-    let p = pos_of c.records.reader in
-    let q = pos_of c.step.new.self in
-    let rest = rest_of c.records.reader in
-    let k = c.records.invariant.3.0 in
-    let l = ap length (ap (λ x. x.now) (c.step.ensures.bytes ∙ c.records.invariant.0)) in
-    let s = stepped _ (step_of p rest) p q _ _ c.step.ensures.result c.step.ensures.stands c.in_ok-record.was in
-    let t = s ∙ ap (λ r. Ok (r, q)) c.in-End.is in
-    let g = ap (gathered_from c.args.side (gathered_of c.records.summary c.records.out) p.place) (ends_early (reads k n) n p.place rest (step_of p rest) q t (omega arith)) in
-    rw c.new.ensures (record { few = tt; gathers = sym g ∙ c.records.invariant.3.2 })
+pub returns-clause-gathers : goal.returns-clause-gathers
+returns-clause-gathers c =
+    let i = c.loop-record.invariant.3 in
+    let old = c.loop-record.reader in
+    let n = reads_none i.0 old c.next.new.self c.next.result c.next.ensures (c.in_ok-record.was ∙ ap Ok c.in_default.is) in
+    sym (ap (gathered_from c.args.side (gathered_of c.loop-record.summary c.loop-record.out) old.place) n) ∙ i.2
 
-pub returns : goal.returns
-returns c =
-    let n = length c.args.reader.now.bytes.now in
-    let p = pos_of c.records.reader in
-    let q = pos_of c.step.new.self in
-    let rest = rest_of c.records.reader in
-    let k = c.records.invariant.3.0 in
-    let l = ap length (ap (λ x. x.now) (c.step.ensures.bytes ∙ c.records.invariant.0)) in
-    let s = stepped _ (step_of p rest) p q _ _ c.step.ensures.result c.step.ensures.stands c.in_ok-record.was in
-    let t = s ∙ ap (λ r. Ok (r, q)) c.in-End.is in
-    let g = ap (gathered_from c.args.side (gathered_of c.records.summary c.records.out) p.place) (ends (reads k n) n p.place rest (step_of p rest) q t (omega arith)) in
-    let a = c.records.invariant.1 in
-    let b = c.records.invariant.2 in
-    record { few = omega arith; gathers = sym g ∙ c.records.invariant.3.2 }
+pub loop-record-smaller : goal.loop-record-smaller
+loop-record-smaller c =
+    let old = c.loop-record.reader in
+    let new = c.next.new.self in
+    let t = reads_on 0 old new c.next.result c.in-Some.record c.next.ensures (c.in_ok-record.was ∙ ap Ok c.in-Some.is) in
+    let l = ap length (ap (λ x. x.now) c.next.ensures.bytes) in
+    let m = t.3 in
+    let w = new.within in
+    omega arith

@@ -1,6 +1,7 @@
-use Rattle.std.proofs.Common.{[], ◌∷◌, ◌++◌, refl, arith}
-use Rattle.stream.specs.Bytes.{le_bytes}
+use Rattle.std.proofs.Common.{[], ◌∷◌, ◌++◌, refl, ap, ◌∙◌, arith}
+use Rattle.stream.specs.Bytes.{le_bytes, patched}
 use Rattle.writer.proofs.Tail.{lent_on}
+use Rattle.writer.proofs.Written.{in_eight}
 use Rattle.writer.proofs.fields.lay_range.Goals as goal
 
 pub returns : goal.returns
@@ -9,5 +10,5 @@ returns c =
     let t = c.args.tag ∷ [] in
     let o = le_bytes 8 c.args.offset in
     let n = le_bytes 8 c.args.count in
-    let b = lent_on xs _ _ t o 0 1 c.put_u8.ensures refl (omega arith) c.put_u64.ensures in
-    lent_on xs _ _ (t ++ o) n 0 9 b refl (omega arith) c.put_u64-2.ensures
+    let b = lent_on xs _ _ t o 0 1 c.put_u8.ensures refl (omega arith) (c.put_bytes.ensures ∙ ap (patched _ 0) (c.to_le_bytes.ensures ∙ in_eight c.args.offset)) in
+    lent_on xs _ _ (t ++ o) n 0 9 b refl (omega arith) (c.put_bytes-2.ensures ∙ ap (patched _ 0) (c.to_le_bytes-2.ensures ∙ in_eight c.args.count))

@@ -9,11 +9,11 @@ use Rattle.paged.proofs.image.PagedImage.can_resize.Goals as goal
 pub returns : goal.returns
 returns c =
     let s = c.args.self.now in
-    let table : List ℕ = s.pages.map.now in
+    let table : List ℕ = s.pages.paging.map.now in
     let size : ℕ = c.args.size in
     let room = ap (λ n. leb size (256 * n)) c.map_places.ensures in
     let few = resized_fills_less (paged_image s) size in
     record {
       room = room;
-      held = room ∙ sym (by_length table s.pages.pool.now (resized (paged_image s) size) (omega (arith, s.counted, s.room)) ∙ ap (λ n. leb n (256 * places table)) (length_resized (paged_image s) size));
+      held = room ∙ sym (by_length table s.pages.paging.pool.now (resized (paged_image s) size) (omega (arith, s.counted, s.pages.sound.room)) ∙ ap (λ n. leb n (256 * places table)) (length_resized (paged_image s) size));
     }

@@ -3,17 +3,17 @@ use Rattle.store.specs.Images.{overwritten}
 use Rattle.store.proofs.ImageLaws.{length_overwritten}
 use Rattle.paged.specs.Pages.{all_pages, places, pool_pages}
 use Rattle.paged.specs.Paged.{paged_image}
-use Rattle.paged.proofs.Whole.{fits_of, whole_of, sound_of, by_count, filled_over}
+use Rattle.paged.proofs.Whole.{fits_of, whole_of, by_count, filled_over}
 use Rattle.paged.proofs.image.PagedImage.has_room.Goals as goal
 
 pub has_room-requires : goal.has_room-requires
-has_room-requires c = let s = c.args.self.now in record { inside = omega (arith, c.requires, fits_of s); sound = sound_of s }
+has_room-requires c = let s = c.args.self.now in omega (arith, c.requires, fits_of s)
 
 pub returns : goal.returns
 returns c =
     let s = c.args.self.now in
-    let table : List ℕ = s.pages.map.now in
-    let pool : List ℕ = s.pages.pool.now in
+    let table : List ℕ = s.pages.paging.map.now in
+    let pool : List ℕ = s.pages.paging.pool.now in
     let bytes : List ℕ = c.args.bytes.now in
     let offset : ℕ = c.args.offset in
     let new : List ℕ = overwritten (paged_image s) offset bytes in

@@ -4,26 +4,26 @@ use Rattle.std.proofs.lemmas.Bool.{cases_lt}
 use Rattle.paged.specs.Pages.{all_pages}
 use Rattle.paged.specs.PageLaws.{length_all}
 use Rattle.paged.proofs.Steps.{kept_none}
-use Rattle.paged.proofs.Whole.{sound_of, valid_of, take_resized}
+use Rattle.paged.proofs.Whole.{valid_of, take_resized}
 use Rattle.paged.proofs.image.PagedImage.set_size.Goals as goal
 
 pub invariant_of-self : goal.invariant_of-self
 invariant_of-self c =
     let s = c.args.self.now in
-    let all : List _ = all_pages s.pages.map.now s.pages.pool.now in
+    let all : List _ = all_pages s.pages.paging.map.now s.pages.paging.pool.now in
     let v =
-    valid_of s.pages.map.now s.pages.pool.now s.pages.spare s.pages.used c.args.size (sound_of s) c.requires.room
+    valid_of s.pages.paging.map.now s.pages.paging.pool.now s.pages.paging.spare s.pages.paging.used c.args.size s.pages.sound c.requires.room
     (λ p h. ⊎_elim (λ low. sym (get_or-take s.size all p 0 low) ∙ c.requires.clear p h) (λ high. s.ended p high) (cases_lt p s.size))
     in
-    record { long = v.long; mapped = v.mapped; apart = v.apart; sparein = v.spare_in; spareapart = v.spare_apart; sparefree = v.spare_free; filled = v.filled; counted = v.counted; room = v.room; ended = v.ended; unmapped = v.unmapped }
+    record { long = v.long; counted = v.counted; ended = v.ended; unmapped = v.unmapped }
 
 pub returns : goal.returns
 returns c =
     let s = c.args.self.now in
-    let table = s.pages.map.now in
-    let pool = s.pages.pool.now in
+    let table = s.pages.paging.map.now in
+    let pool = s.pages.paging.pool.now in
     record {
       same = refl;
-      image = take_resized (all_pages table pool) s.size c.args.size (omega (arith, c.requires.room, length_all table pool s.mapped)) s.ended;
+      image = take_resized (all_pages table pool) s.size c.args.size (omega (arith, c.requires.room, length_all table pool s.pages.sound.placed.mapped)) s.ended;
       kept = kept_none table pool;
     }

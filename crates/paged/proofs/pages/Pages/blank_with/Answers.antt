@@ -1,55 +1,54 @@
-use Rattle.std.proofs.Common.{◌≡◌, ℕ, ◌+◌, ◌<◌, Bool, true, false, ◌&&◌, List, length, get_or, take, drop, sym, ap, ◌∙◌, arith}
+use Rattle.std.proofs.Common.{◌≡◌, ℕ, suc, ◌+◌, ◌-◌, ◌*◌, Bool, true, false, ◌&&◌, List, length, get_or, take, drop, sym, ap, ◌∙◌, arith, length-drop}
+use Rattle.std.proofs.lemmas.List.{take_all}
 use Rattle.store.specs.Images.{overwritten}
 use Rattle.paged.specs.Pages.{all_pages, page_of, page_at, blank}
-use Rattle.paged.proofs.Puts.{page_value, blank_none, blank_in_blank, blank_around, blank_zeros, front_part, back_part}
+use Rattle.paged.proofs.Puts.{page_value, blank_none, blank_in_blank, blank_around, blank_zeros}
 use Rattle.paged.proofs.pages.Pages.blank_with.Goals as goal
 
 pub returns-then-not-all_zero : goal.returns-then-not-all_zero
 returns-then-not-all_zero c =
-    let s = c.args.self.now in
+    let s = c.args.self.now.paging in
     sym (blank_none (page_of (all_pages s.map.now s.pool.now) c.args.i) c.args.from c.args.bytes.now (sym c.if-not-all_zero.ensures))
 
-pub returns-then-self-i-eq0 : goal.returns-then-self-i-eq0
-returns-then-self-i-eq0 c =
-    let s = c.args.self.now in
+pub returns-in_default : goal.returns-in_default
+returns-in_default c =
+    let s = c.args.self.now.paging in
     let page : List ℕ = page_of (all_pages s.map.now s.pool.now) c.args.i in
+    let none : get_or s.map.now c.args.i 0 ≡ 0 = c.in_default.ensures in
     let empty : blank page ≡ true =
-    ap blank (page_value s.map.now s.pool.now c.args.i c.requires.placed.mapped c.requires.here.0)
-    ∙ ap (λ v. blank (page_at s.pool.now v)) c.if-self-i-eq0.true ∙ blank_zeros 256 in
+    ap blank (page_value s.map.now s.pool.now c.args.i c.args.self.now.sound.placed.mapped c.requires.here.0)
+    ∙ ap (λ v. blank (page_at s.pool.now v)) none ∙ blank_zeros 256 in
     sym (blank_in_blank page c.args.from c.args.bytes.now empty (sym c.if-not-all_zero.ensures))
 
 -- around the bytes, the pool page decides
-around : (table pool bytes : List ℕ) (i from m : ℕ) (f t : Bool) → page_of (all_pages table pool) i ≡ page_at pool m → blank bytes ≡ true → blank (take from (page_at pool m)) ≡ f → blank (drop (from + length bytes) (page_at pool m)) ≡ t
-    → blank (overwritten (page_of (all_pages table pool) i) from bytes) ≡ (f && t)
-around table pool bytes i from m f t pv b x y =
+around : (table pool bytes page : List ℕ) (i from k : ℕ) (f t : Bool) → page_of (all_pages table pool) i ≡ page_at pool (get_or table i 0) → get_or table i 0 ≡ k + 1 → page ≡ take (256 * k + 256 - 256 * k) (drop (256 * k) pool)
+    → blank bytes ≡ true → blank (take from page) ≡ f → blank (drop (from + length bytes) page) ≡ t → blank (overwritten (page_of (all_pages table pool) i) from bytes) ≡ (f && t)
+around table pool bytes page i from k f t is value cut b x y =
+    let value' : get_or table i 0 ≡ suc k = omega arith in
+    let size : 256 * k + 256 - 256 * k ≡ 256 = omega arith in
+    let pool-page : page_of (all_pages table pool) i ≡ page = is ∙ ap (page_at pool) value' ∙ ap (λ n. take n (drop (256 * k) pool)) (sym size) ∙ sym cut in
     blank_around (page_of (all_pages table pool) i) from bytes b
-    ∙ (λ k. blank (take from (pv k)) && blank (drop (from + length bytes) (pv k)))
-    ∙ (λ k. x k && y k)
-
-pub returns : goal.returns
-returns c =
-    let s = c.args.self.now in
-    let table : List ℕ = s.map.now in
-    let pool : List ℕ = s.pool.now in
-    let bytes : List ℕ = c.args.bytes.now in
-    let i : ℕ = c.args.i in
-    let from : ℕ = c.args.from in
-    let m : ℕ = get_or table i 0 in
-    let some : 0 < m = omega (arith, c.if-self-i-eq0.false) in
-    let x = sym (ap blank (front_part pool m from (length bytes) c.requires.here.1 some)) ∙ sym c.if-not-all_zero-2.ensures in
-    let y = sym (ap blank (back_part pool m from (length bytes) c.requires.here.1 some)) ∙ sym c.all_zero-3.ensures in
-    sym (around table pool bytes i from m true c.all_zero-3.result (page_value table pool i c.requires.placed.mapped c.requires.here.0) (sym c.if-not-all_zero.ensures) x y)
+    ∙ ap (λ p. blank (take from p) && blank (drop (from + length bytes) p)) pool-page
+    ∙ (λ n. x n && y n)
 
 pub returns-then-not-all_zero-2 : goal.returns-then-not-all_zero-2
 returns-then-not-all_zero-2 c =
-    let s = c.args.self.now in
+    let s = c.args.self.now.paging in
     let table : List ℕ = s.map.now in
     let pool : List ℕ = s.pool.now in
-    let bytes : List ℕ = c.args.bytes.now in
-    let i : ℕ = c.args.i in
-    let from : ℕ = c.args.from in
-    let m : ℕ = get_or table i 0 in
-    let some : 0 < m = omega (arith, c.if-self-i-eq0.false) in
-    let x = sym (ap blank (front_part pool m from (length bytes) c.requires.here.1 some)) ∙ sym c.if-not-all_zero-2.ensures in
-    let y : blank (drop (from + length bytes) (page_at pool m)) ≡ blank (drop (from + length bytes) (page_at pool m)) = λ k. blank (drop (from + length bytes) (page_at pool m)) in
-    sym (around table pool bytes i from m false _ (page_value table pool i c.requires.placed.mapped c.requires.here.0) (sym c.if-not-all_zero.ensures) x y)
+    let k : ℕ = c.in-Some.k in
+    let page : List ℕ = take (256 * k + 256 - 256 * k) (drop (256 * k) pool) in
+    sym (around table pool c.args.bytes.now page c.args.i c.args.from k false _ (page_value table pool c.args.i c.args.self.now.sound.placed.mapped c.requires.here.0) c.in-Some.ensures (λ n. page)
+    (sym c.if-not-all_zero.ensures) (sym c.if-not-all_zero-2.ensures) (λ n. blank (drop (c.args.from + length c.args.bytes.now) page)))
+
+pub returns : goal.returns
+returns c =
+    let s = c.args.self.now.paging in
+    let table : List ℕ = s.map.now in
+    let pool : List ℕ = s.pool.now in
+    let k : ℕ = c.in-Some.k in
+    let page : List ℕ = take (256 * k + 256 - 256 * k) (drop (256 * k) pool) in
+    let after : ℕ = c.args.from + length c.args.bytes.now in
+    let tail : take (length page - after) (drop after page) ≡ drop after page = take_all (length page - after) (drop after page) (omega (arith, length-drop after page)) in
+    sym (around table pool c.args.bytes.now page c.args.i c.args.from k true _ (page_value table pool c.args.i c.args.self.now.sound.placed.mapped c.requires.here.0) c.in-Some.ensures (λ n. page)
+    (sym c.if-not-all_zero.ensures) (sym c.if-not-all_zero-2.ensures) (ap blank (sym tail) ∙ sym c.all_zero-3.ensures))

@@ -3,49 +3,47 @@ use Rattle.std.proofs.lemmas.Bool.{eq-eqb}
 use Rattle.store.specs.Images.{overwritten}
 use Rattle.paged.specs.Pages.{all_pages, page_of, blank}
 use Rattle.paged.proofs.Steps.{kept_none}
-use Rattle.paged.proofs.Puts.{page_fits, kept_page, zeroed_page}
+use Rattle.paged.proofs.Puts.{page_fits, no_page, kept_page, zeroed_page}
 use Rattle.paged.proofs.pages.Pages.clear_blank.Goals as goal
 
 either : (t : Bool) (x y : List ℕ) → (t ≡ true → x ≡ y) → x ≡ cond t y x
 either true x y h = h refl
 either false x y h = refl
 
-pub returns-then-self-i-eq0 : goal.returns-then-self-i-eq0
-returns-then-self-i-eq0 c =
-    let s = c.args.self.now in
+pub returns-then-is_none : goal.returns-then-is_none
+returns-then-is_none c =
+    let s = c.args.self.now.paging in
     let i : ℕ = c.args.i in
     let from : ℕ = c.args.from in
     let bytes : List ℕ = c.args.bytes.now in
     let all : List ℕ = all_pages s.map.now s.pool.now in
-    let fits = page_fits s.map.now s.pool.now s.spare s.used i from bytes c.requires.sound c.requires.here.0 c.requires.here.1 in
-    let was : blank (page_of all i) ≡ true = c.requires.sound.filled i c.requires.here.0 ∙ eq-eqb (get_or s.map.now i 0) 0 c.if-self-i-eq0.true in
+    let none : get_or s.map.now i 0 ≡ 0 = no_page c.page.result (get_or s.map.now i 0) c.page.ensures c.if-is_none.ensures in
+    let fits = page_fits s.map.now s.pool.now s.spare s.used i from bytes c.args.self.now.sound c.requires.here.0 c.requires.here.1 in
+    let was : blank (page_of all i) ≡ true = c.args.self.now.sound.filled i c.requires.here.0 ∙ eq-eqb (get_or s.map.now i 0) 0 none in
     record {
-      sound = c.requires.sound;
       kept = kept_none s.map.now s.pool.now;
       pages = either (blank (overwritten (page_of all i) from bytes)) all (overwritten all (256 * i + from) bytes) (λ e. kept_page all i from bytes c.requires.here.1 fits was e);
     }
 
 pub returns-then-not-blank_with : goal.returns-then-not-blank_with
 returns-then-not-blank_with c =
-    let s = c.args.self.now in
+    let s = c.args.self.now.paging in
     let all : List ℕ = all_pages s.map.now s.pool.now in
     record {
-      sound = c.requires.sound;
       kept = kept_none s.map.now s.pool.now;
       pages = ap (λ t. cond t (overwritten all (256 * c.args.i + c.args.from) c.args.bytes.now) all) c.if-not-blank_with.ensures;
     }
 
 pub returns : goal.returns
 returns c =
-    let s = c.args.self.now in
+    let s = c.args.self.now.paging in
     let i : ℕ = c.args.i in
     let from : ℕ = c.args.from in
     let bytes : List ℕ = c.args.bytes.now in
     let all : List ℕ = all_pages s.map.now s.pool.now in
     let told = c.clear.ensures in
-    let fits = page_fits s.map.now s.pool.now s.spare s.used i from bytes c.requires.sound c.requires.here.0 c.requires.here.1 in
+    let fits = page_fits s.map.now s.pool.now s.spare s.used i from bytes c.args.self.now.sound c.requires.here.0 c.requires.here.1 in
     record {
-      sound = told.sound;
       kept = told.kept;
       pages = told.pages ∙ zeroed_page all i from bytes c.requires.here.1 fits (sym c.if-not-blank_with.ensures) ∙ ap (λ t. cond t (overwritten all (256 * i + from) bytes) all) c.if-not-blank_with.ensures;
     }

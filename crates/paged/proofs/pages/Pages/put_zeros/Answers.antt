@@ -1,4 +1,4 @@
-use Rattle.std.proofs.Common.{◌≡◌, ℕ, ◌+◌, ◌-◌, ◌*◌, List, length, take, replicate, sym, ap, ◌∙◌, arith, length-take}
+use Rattle.std.proofs.Common.{◌≡◌, ℕ, ◌+◌, ◌*◌, List, length, take, replicate, sym, ap, ◌∙◌, arith, length-take}
 use lib.ListN.{length-replicate}
 use Rattle.store.specs.Images.{overwritten}
 use Rattle.paged.specs.Pages.{all_pages, places}
@@ -8,39 +8,36 @@ use Rattle.paged.proofs.pages.Pages.put_zeros.Goals as goal
 
 pub returns-then-count-eq256 : goal.returns-then-count-eq256
 returns-then-count-eq256 c =
-    let s = c.args.self.now in
+    let s = c.args.self.now.paging in
     let told = c.clear.ensures in
     let i : ℕ = c.args.i in
     let all : List ℕ = all_pages s.map.now s.pool.now in
     let start : 256 * i ≡ 256 * i + c.args.from = omega (arith, c.requires.here.1, c.if-count-eq256.true) in
     record {
-      sound = told.sound;
       kept = told.kept;
       pages = told.pages ∙ ap (λ o. overwritten all o (replicate 256 0)) start ∙ ap (λ n. overwritten all (256 * i + c.args.from) (replicate n 0)) (sym c.if-count-eq256.true);
     }
 
 pub put-requires : goal.put-requires
 put-requires c =
-    let s = c.args.self.now in
+    let s = c.args.self.now.paging in
     let i : ℕ = c.args.i in
     let from : ℕ = c.args.from in
     let count : ℕ = c.args.count in
-    let zs : List ℕ = take (count - 0) (replicate {A = ℕ} 256 0) in
-    let lz : length zs ≡ count = omega (arith, length-take (count - 0) (replicate {A = ℕ} 256 0), length-replicate {A = ℕ} 256 0, c.requires.here.1) in
-    let long = length_all s.map.now s.pool.now c.requires.sound.placed.mapped in
-    let less = zeros_fill_less (places s.map.now) (all_pages s.map.now s.pool.now) (256 * i + from) zs (zeros_blank count (omega (arith, c.requires.here.1))) (omega (arith, c.requires.here)) long in
+    let zs : List ℕ = take count (replicate {A = ℕ} 256 0) in
+    let lz : length zs ≡ count = omega (arith, length-take count (replicate {A = ℕ} 256 0), length-replicate {A = ℕ} 256 0, c.requires.here.1) in
+    let long = length_all s.map.now s.pool.now c.args.self.now.sound.placed.mapped in
+    let less = zeros_fill_less (places s.map.now) (all_pages s.map.now s.pool.now) (256 * i + from) zs (zeros_blank count) (omega (arith, c.requires.here)) long in
     record {
       here = (c.requires.here.0, omega (arith, c.requires.here.1));
-      sound = c.requires.sound;
-      room = omega (arith, c.requires.sound.counted, c.requires.sound.room);
+      room = omega (arith, c.args.self.now.sound.counted, c.args.self.now.sound.room);
     }
 
 pub returns : goal.returns
 returns c =
-    let s = c.args.self.now in
+    let s = c.args.self.now.paging in
     let told = c.put.ensures in
     record {
-      sound = told.sound;
       kept = told.kept;
       pages = told.pages ∙ ap (overwritten (all_pages s.map.now s.pool.now) (256 * c.args.i + c.args.from)) (zeros_part c.args.count (omega (arith, c.requires.here.1)));
     }

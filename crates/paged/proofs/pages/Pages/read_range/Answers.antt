@@ -1,43 +1,52 @@
-use Rattle.std.proofs.Common.{◌≡◌, ℕ, ◌+◌, ◌-◌, ◌*◌, ◌/◌, ◌%◌, ◌≤◌, List, length, get_or, take, drop, refl, ap, ◌∙◌, arith, length-drop, length-take}
+use Rattle.std.proofs.Common.{◌≡◌, ℕ, ◌+◌, ◌-◌, ◌*◌, ◌<◌, ◌≤◌, List, length, get_or, take, drop, refl, ap, ◌∙◌, arith, length-drop, length-take}
 use Rattle.store.specs.Images.{part}
 use Rattle.store.proofs.ImageLaws.{length_overwritten, put_between}
-use Rattle.paged.specs.Pages.{all_pages}
+use Rattle.paged.specs.Pages.{all_pages, reach}
 use Rattle.paged.specs.PageLaws.{length_all, read_whole}
+use Rattle.paged.proofs.Ranges.{part_of}
 use Rattle.paged.proofs.Reading.{read_more}
 use Rattle.paged.proofs.pages.Pages.read_range.Goals as goal
 
-pub loop-done-init : goal.loop-done-init
-loop-done-init c = (omega arith, refl, (λ k h. absurd (omega arith)))
+pub loop-i-init : goal.loop-i-init
+loop-i-init c = record { long = refl; read = λ k h. absurd (omega arith) }
 
-pub loop-done-preserved : goal.loop-done-preserved
-loop-done-preserved c =
-    let s = c.args.self.now in
+pub loop-i-preserved : goal.loop-i-preserved
+loop-i-preserved c =
+    let s = c.args.self.now.paging in
     let all : List ℕ = all_pages s.map.now s.pool.now in
     let offset : ℕ = c.args.offset in
-    let buf : List ℕ = c.loop-done.buf in
-    let d : ℕ = c.loop-done.done in
-    let n : ℕ = c.min-n.result in
-    let inv = c.loop-done.invariant in
-    let size = c.min-n.ensures in
-    let most : d + n ≤ length buf = omega arith in
-    let fits : offset + d + n ≤ length all = omega (arith, length_all s.map.now s.pool.now c.requires.mapped, c.requires.inside, inv.1) in
-    let place : 256 * ((offset + d) / 256) + (offset + d) % 256 ≡ offset + d = omega arith in
-    let lb : length (take (d + n - d) (drop d buf)) ≡ n = simp (length-take, length-drop) (omega arith) in
-    let new : List ℕ = part all (offset + d) n in
-    let ln : length new ≡ n = simp (length-take, length-drop) (omega arith) in
-    let got = c.get.ensures ∙ ap (λ q. part all q (length (take (d + n - d) (drop d buf)))) place ∙ ap (part all (offset + d)) lb in
-    let put = put_between d (d + n - d) buf c.get.new.buf new got (omega arith) in
-    let kept = ap length put ∙ length_overwritten buf d new (omega arith) in (
-      omega arith,
-      kept ∙ inv.1,
-      (λ k h. ap (λ b. get_or b k 0) put ∙ read_more all buf offset d n most fits inv.2 k h),
-    )
+    let count : ℕ = length c.args.buf.now in
+    let buf : List ℕ = c.loop-i.buf in
+    let i : ℕ = c.loop-i.i in
+    let d : ℕ = c.of-part.result.start in
+    let m : ℕ = c.of-part.result.end in
+    let from : ℕ = c.of-part.result.from in
+    let inv = c.loop-i.invariant in
+    let told = c.of-part.ensures in
+    let same : length buf ≡ count = inv.long in
+    let meets : 256 * i < offset + count = omega (arith, c.loop-i-test.true, c.div_ceil-i-end.ensures) in
+    let is-m : m ≡ reach offset count (i + 1) = told.end ∙ ap (λ n. reach offset n (i + 1)) same in
+    let is-d : d ≡ reach offset count i = told.start ∙ ap (λ n. reach offset n i) same in
+    let p = part_of offset count i d m from c.loop-i.auto.i meets is-d is-m told.from in
+    let order = p.order in
+    let most : m ≤ length buf = omega (arith, p.most) in
+    let fits : offset + m ≤ length all = omega (arith, length_all s.map.now s.pool.now c.args.self.now.sound.placed.mapped, c.requires.inside) in
+    let lb : length (take (m - d) (drop d buf)) ≡ m - d = simp (length-take, length-drop) (omega arith) in
+    let new : List ℕ = part all (offset + d) (m - d) in
+    let ln : length new ≡ m - d = simp (length-take, length-drop) (omega arith) in
+    let got = c.get.ensures ∙ ap (λ q. part all q (length (take (m - d) (drop d buf)))) p.place ∙ ap (part all (offset + d)) lb in
+    let put = put_between d (m - d) buf c.get.new.buf new got (omega arith) in
+    record {
+      long = ap length put ∙ length_overwritten buf d new (omega arith) ∙ same;
+      read = λ k h. ap (λ b. get_or b k 0) put ∙ read_more all buf offset d m order most fits (λ j l. inv.read j (omega (arith, is-d))) k (omega (arith, is-m));
+    }
 
 pub returns : goal.returns
 returns c =
-    let s = c.args.self.now in
-    let inv = c.loop-done.invariant in
+    let s = c.args.self.now.paging in
+    let inv = c.loop-i.invariant in
     let count : ℕ = length c.args.buf.now in
-    read_whole (all_pages s.map.now s.pool.now) c.loop-done.buf c.args.offset count inv.1
-    (omega (arith, length_all s.map.now s.pool.now c.requires.mapped, c.requires.inside))
-    (λ k h. inv.2 k (omega (arith, inv.0, inv.1)))
+    let end : reach c.args.offset count c.loop-i.i ≡ count = omega (arith, c.loop-i-test.false, c.div_ceil-i-end.ensures) in
+    read_whole (all_pages s.map.now s.pool.now) c.loop-i.buf c.args.offset count inv.long
+    (omega (arith, length_all s.map.now s.pool.now c.args.self.now.sound.placed.mapped, c.requires.inside))
+    (λ k h. inv.read k (omega (arith, end)))

@@ -1,30 +1,38 @@
-use Rattle.std.proofs.Common.{◌≡◌, ℕ, ◌+◌, ◌-◌, ◌&&◌, List, length, take, drop, sym, ap, ◌∙◌, arith, length-drop}
-use Rattle.std.proofs.lemmas.List.{drop-drop, take_all, take-append-drop}
+use Rattle.std.proofs.Common.{rules, tests, ◌≡◌, ℕ, zero, suc, ◌*◌, ◌/◌, Bool, true, false, ◌&&◌, List, length, take, drop, sym, refl, ap, ◌∙◌, arith}
+use Rattle.std.specs.List.{list_all}
+use Rattle.std.specs.Simd.{first_chunks}
+use Rattle.std.proofs.lemmas.List.{take-append-drop, drop-drop}
+use Rattle.std.proofs.lemmas.Iterator.{YieldsList-from_slice}
+use Rattle.std.proofs.lemmas.Iterator.Search.{all_from_yields_List}
 use Rattle.paged.specs.Pages.{blank}
 use Rattle.paged.proofs.Puts.{blank_append}
 use Rattle.paged.proofs.pages.zeros.all_zero.Goals as goal
 
--- the next n bytes, and those after them
-next : (xs : List ℕ) (d n : ℕ) → blank (drop d xs) ≡ (blank (take (d + n - d) (drop d xs)) && blank (drop (d + n) xs))
-next xs d n =
-    let block : List ℕ = take (d + n - d) (drop d xs) in
-    ap blank (sym (take-append-drop (d + n - d) (drop d xs))) ∙ blank_append block (drop (d + n - d) (drop d xs))
-    ∙ ap (λ rest. blank block && blank rest) (drop-drop (d + n - d) d xs ∙ ap (λ m. drop m xs) (omega arith))
+all_but : (t u v w : Bool) → (u && v) ≡ w → ((t && u) && v) ≡ (t && w)
+all_but true u v w e = e
+all_but false u v w e = refl
 
-pub loop-done-preserved : goal.loop-done-preserved
-loop-done-preserved c =
-    let xs = c.args.bytes.now in
-    let done = c.loop-done.done in
-    (omega arith, sym (next xs done 32 ∙ ap (λ t. t && blank (drop (done + 32) xs)) (sym c.if-not-zero_block.ensures)) ∙ c.loop-done.invariant.1)
+-- the first k blocks, and what comes after them
+in_blocks : (k : ℕ) (xs : List ℕ) → (list_all blank (first_chunks 32 k xs) && blank (drop (k * 32) xs)) ≡ blank xs
+in_blocks zero xs = refl
+in_blocks (suc k) xs =
+    let on : drop (suc k * 32) xs ≡ drop (k * 32) (drop 32 xs) = sym (drop-drop (k * 32) 32 xs ∙ ap (λ n. drop n xs) (omega arith)) in
+    ap (λ ys. list_all blank (first_chunks 32 (suc k) xs) && blank ys) on
+    ∙ all_but (blank (take 32 xs)) (list_all blank (first_chunks 32 k (drop 32 xs))) (blank (drop (k * 32) (drop 32 xs))) (blank (drop 32 xs)) (in_blocks k (drop 32 xs))
+    ∙ sym (blank_append (take 32 xs) (drop 32 xs)) ∙ ap blank (take-append-drop 32 xs)
 
-pub returns-then-not-zero_block : goal.returns-then-not-zero_block
-returns-then-not-zero_block c =
-    let xs = c.args.bytes.now in
-    let done = c.loop-done.done in
-    sym (next xs done 32 ∙ ap (λ t. t && blank (drop (done + 32) xs)) (sym c.if-not-zero_block.ensures)) ∙ c.loop-done.invariant.1
+-- the answer of the first blocks
+pub returns-then-all : goal.returns-then-all
+returns-then-all c =
+    let xs : List ℕ = c.args.bytes.now in
+    let k : ℕ = length xs / 32 in
+    let firsts : c.all.result ≡ list_all blank (first_chunks 32 k xs) = all_from_yields_List blank _ _ c.all.result c.all.ensures.ran (YieldsList-from_slice (first_chunks 32 k xs) cc) (λ x b q k. search (rules, tests)) in
+    c.zero_block.ensures ∙ ap blank c.as_chunks.ensures.back
+    ∙ ap (λ t. t && blank (drop (k * 32) xs)) (sym c.if-all.true ∙ firsts) ∙ in_blocks k xs
 
-pub returns : goal.returns
-returns c =
-    let xs = c.args.bytes.now in
-    let done = c.loop-done.done in
-    c.zero_block-2.ensures ∙ ap blank (take_all (length xs - done) (drop done xs) (omega (arith, length-drop done xs))) ∙ c.loop-done.invariant.1
+pub returns-else-all : goal.returns-else-all
+returns-else-all c =
+    let xs : List ℕ = c.args.bytes.now in
+    let k : ℕ = length xs / 32 in
+    let firsts : c.all.result ≡ list_all blank (first_chunks 32 k xs) = all_from_yields_List blank _ _ c.all.result c.all.ensures.ran (YieldsList-from_slice (first_chunks 32 k xs) cc) (λ x b q k. search (rules, tests)) in
+    c.if-all.false ∙ ap (λ t. t && blank (drop (k * 32) xs)) (sym c.if-all.false ∙ firsts) ∙ in_blocks k xs

@@ -1,28 +1,16 @@
-use Rattle.std.proofs.Common.{◌≡◌, ◌+◌, ◌<◌, List, length, ap, arith, rules}
+use Rattle.std.proofs.Common.{◌+◌, List, map, sym, ap, ◌∙◌, subst}
+use Rattle.std.proofs.lemmas.List.{map_push}
+use Rattle.table.specs.Entries.{row_of}
+use Rattle.table.specs.Held.{append_row}
 use Rattle.table.specs.Names.{name_of}
-use Rattle.table.specs.Tables.{Row, Table}
-use Rattle.table.proofs.Held.{count_is}
-use Rattle.table.proofs.Steps.{appended_rows, appended_ends}
+use Rattle.table.specs.Tables.{Row, Table, LaidOut}
+use Rattle.table.proofs.Steps.{appended}
 use Rattle.table.proofs.table.EntryTable.append.Goals as goal
-
-pub bounds-self-self : goal.bounds-self-self
-bounds-self-self c =
-    let t = c.args.self.now in
-    let long : length t.entries ≡ 64 = search rules in
-    omega (arith, c.requires.room, count_is t long)
 
 pub invariant_of-self : goal.invariant_of-self
 invariant_of-self c =
-    let t = c.args.self.now in
-    let long : length t.entries ≡ 64 = search rules in
-    let room : t.count < 64 = omega (arith, c.requires.room, count_is t long) in
-    record { few = omega arith; ends = appended_ends t long c.args.entry room c.requires.place }
-
-pub returns : goal.returns
-returns c =
-    let t = c.args.self.now in
-    let e = c.args.entry in
-    let long : length t.entries ≡ 64 = search rules in
-    let room : t.count < 64 = omega (arith, c.requires.room, count_is t long) in
-    let made : List Row → Table = λ q. record { base = name_of t.base; rows = q; fill = t.fill + e.length } in
-    ap made (appended_rows t long e room)
+    let t = c.self.inside in
+    let row = row_of c.args.entry in
+    let made : List Row → Table = λ q. record { base = name_of t.base; rows = q; fill = t.fill + row.length } in
+    let same = ap made (ap (map row_of) c.push.ensures.items ∙ map_push row_of t.entries.items c.args.entry) ∙ ap (λ s. append_row s row) c.self.view_is in
+    subst LaidOut (sym same) (appended c.args.self.now (subst LaidOut c.self.view_is c.self.invariant) row c.requires.room c.requires.place)

@@ -1,22 +1,42 @@
-use Rattle.std.proofs.Common.{◌≡◌, length, arith, rules}
-use Rattle.table.proofs.Steps.{rest_moves, united_ends, united_table}
+use Rattle.std.proofs.Common.{◌+◌, ◌^◌, ◌<◌, ◌∷◌, ◌++◌, map, length, get_or, take, drop, sym, ap, ◌∙◌, subst, rules, arith}
+use Rattle.std.proofs.lemmas.List.{length-map}
+use Rattle.table.specs.Entries.{moved_entry}
+use Rattle.table.specs.Names.{name_of}
+use Rattle.table.specs.Tables.{LaidOut}
+use Rattle.table.proofs.Closed.{lent, closed}
+use Rattle.table.proofs.Steps.{united, used, later_inside, later_moves, united_is}
 use Rattle.table.proofs.table.EntryTable.take_over.Goals as goal
 
-pub close_gap-requires : goal.close_gap-requires
-close_gap-requires c =
-    let t = c.args.self.now in
-    let long : length t.entries ≡ 64 = search rules in
-    rest_moves t long c.args.i c.args.byte_count c.args.to c.unite.new.self c.entry-earlier.result c.entry_after-later.result c.unite.ensures c.entry-earlier.ensures.row c.entry_after-later.ensures.row c.requires.two c.requires.fits
+pub overflow_add-old : goal.overflow_add-old
+overflow_add-old c =
+    let inside = later_inside c.self.inside c.args.self.now c.self.view_is c.self.invariant c.args.i c.remove-later.result c.requires.two c.remove-later.ensures.value in
+    let fits : c.self.inside.fill < 2 ^ 64 = search rules in
+    omega (arith, inside, fits)
 
-pub invariant_of-self : goal.invariant_of-self
-invariant_of-self c =
-    let t = c.args.self.now in
-    let long : length t.entries ≡ 64 = search rules in
-    let ends = united_ends t long c.args.i c.args.byte_count c.args.to c.unite.new.self c.entry-earlier.result c.entry_after-later.result c.unite.ensures c.entry-earlier.ensures.row c.entry_after-later.ensures.row c.requires.two c.close_gap.new.entries _ c.close_gap.auto.entries c.close_gap.ensures in
-    record { few = omega arith; ends = ends }
+pub shift_all-requires : goal.shift_all-requires
+shift_all-requires c =
+    let is = c.as_mut_slice-entries.ensures.value ∙ c.remove-later.ensures.items in
+    later_moves c.self.inside c.args.self.now c.self.view_is c.self.invariant c.args.i c.remove-later.result c.requires.two c.remove-later.ensures.value c.args.byte_count c.args.to c.as_mut_slice-entries.result.now c.index-entries-i.result c.unite.new.self is c.unite.ensures c.requires.fits
+
+pub overflow_sub-self : goal.overflow_sub-self
+overflow_sub-self c = later_inside c.self.inside c.args.self.now c.self.view_is c.self.invariant c.args.i c.remove-later.result c.requires.two c.remove-later.ensures.value
 
 pub returns : goal.returns
 returns c =
-    let t = c.args.self.now in
-    let long : length t.entries ≡ 64 = search rules in
-    united_table t long c.args.i c.args.byte_count c.args.to c.unite.new.self c.entry-earlier.result c.entry_after-later.result c.unite.ensures c.entry-earlier.ensures.row c.entry_after-later.ensures.row c.requires.two c.close_gap.new.entries _ c.close_gap.auto.entries c.close_gap.ensures
+    let t = c.self.inside in
+    let i = c.args.i in
+    let later = c.remove-later.result in
+    let left = c.as_mut_slice-entries.result.now in
+    let d = c.index-entries-i.result in
+    let x = c.unite.new.self in
+    let is = c.as_mut_slice-entries.ensures.value ∙ c.remove-later.ensures.items in
+    let two = used t c.args.self.now c.self.view_is c.self.invariant i later c.requires.two c.remove-later.ensures.value in
+    let f = moved_entry (later.place + later.length) ((get_or left i d).place + c.args.byte_count) in
+    let ys = c.shift_all.ensures ∙ ap (map f) (lent t.entries.items left i two is x) in
+    let long = ap length ys ∙ length-map (drop (i + 2) t.entries.items) f in
+    let items = closed t.entries.items left i two is x (length c.remove-later.new.self.items) c.shift_all.new.entries _ _ (ap length (sym c.as_mut_slice-entries.ensures.value)) long ∙ ap (λ q. take i t.entries.items ++ x ∷ q) ys in
+    united_is t c.args.self.now c.self.view_is c.self.invariant i later c.requires.two c.remove-later.ensures.value c.args.byte_count c.args.to left d x is c.unite.ensures _ items
+
+pub invariant_of-self : goal.invariant_of-self
+invariant_of-self c =
+    subst LaidOut (sym (returns c)) (united c.args.self.now (subst LaidOut c.self.view_is c.self.invariant) c.args.i c.args.byte_count (name_of c.args.to) c.requires.two)

@@ -1,0 +1,94 @@
+use anyhow::anyhow;
+use std::alloc::Global;
+use words::{Room, decoded};
+
+// What a series opens with: what its image lies in and is, the shelf's base name, and how many bytes the
+// shelf has.
+#[derive(Drop)]
+pub struct Opening {
+    pub room: Room,
+    pub name: Vec<u8>,
+    pub length: usize,
+    pub image: Vec<u8>,
+}
+
+// A step of a series. A call is handed the first `handed` of the shelf's bytes, and lent a buffer of
+// `room` bytes.
+#[derive(Drop)]
+pub enum Step {
+    Put {
+        handed: usize,
+        stream: Vec<u8>,
+    },
+    Join {
+        handed: usize,
+        entry: usize,
+        room: usize,
+    },
+    Settle {
+        handed: usize,
+    },
+    List {
+        handed: usize,
+        entry: usize,
+        room: usize,
+    },
+    Poke {
+        place: usize,
+        bytes: Vec<u8>,
+    },
+}
+
+// The opening of a line; a word that is missing is empty, and words too many are left out.
+pub fn read_opening(heap: Global, line: &str) -> anyhow::Result<Opening> {
+    let mut words = line.split(' ');
+    match [(); 6].map(|()| words.next().unwrap_or("")) {
+        ["flat", bytes, name, length, image, _] => Ok(Opening {
+            room: Room::Flat {
+                bytes: bytes.parse()?,
+            },
+            image: decoded(heap, image)?,
+            name: decoded(heap, name)?,
+            length: length.parse()?,
+        }),
+        ["paged", places, pages, name, length, image] => Ok(Opening {
+            room: Room::Paged {
+                places: places.parse()?,
+                pages: pages.parse()?,
+            },
+            image: decoded(heap, image)?,
+            name: decoded(heap, name)?,
+            length: length.parse()?,
+        }),
+        _ => Err(anyhow!("no such store")),
+    }
+}
+
+// The step of a line, likewise.
+pub fn read_step(heap: Global, line: &str) -> anyhow::Result<Step> {
+    let mut words = line.split(' ');
+    match [(); 4].map(|()| words.next().unwrap_or("")) {
+        ["put", handed, stream, _] => Ok(Step::Put {
+            handed: handed.parse()?,
+            stream: decoded(heap, stream)?,
+        }),
+        ["join", handed, entry, room] => Ok(Step::Join {
+            handed: handed.parse()?,
+            entry: entry.parse()?,
+            room: room.parse()?,
+        }),
+        ["settle", handed, ..] => Ok(Step::Settle {
+            handed: handed.parse()?,
+        }),
+        ["list", handed, entry, room] => Ok(Step::List {
+            handed: handed.parse()?,
+            entry: entry.parse()?,
+            room: room.parse()?,
+        }),
+        ["poke", place, bytes, _] => Ok(Step::Poke {
+            place: place.parse()?,
+            bytes: decoded(heap, bytes)?,
+        }),
+        _ => Err(anyhow!("no such step")),
+    }
+}

@@ -1,0 +1,66 @@
+ghost use Rattle.std.specs.Prelude.{◌≡◌, ◌+◌, ◌≤◌, length, replicate, nat_le};
+ghost use Rattle.store.specs.Images.{part, overwritten, resized};
+ghost use Rattle.store.specs.Memory.{flat_room, Changed};
+ghost use Rattle.store.specs.Flat.{flat_memory, flat_image, flat_holds};
+
+use crate::flat::FlatImage;
+
+// The largest image: 2^40 bytes.
+const LIMIT: u64 = 1 << 40;
+
+// The largest size of an image in a piece of memory.
+pub(super) fn room(bytes: &[u8]) -> u64
+    ensures { result ≡ flat_room bytes.now }
+{
+    (bytes.len() as u64).min(LIMIT)
+}
+
+impl<'a> FlatImage<'a> {
+    // Whether the memory holds the image at another size.
+    pub(super) fn can_resize(&self, size: u64) -> bool
+        ensures room { result ≡ nat_le size (flat_room (flat_memory self.now)) }
+        ensures held { result ≡ flat_holds self.now (resized (flat_image self.now) size) }
+    {
+        size <= room(self.bytes)
+    }
+
+    // Fills the buffer with the bytes from an offset on.
+    pub(super) fn get(&self, offset: usize, buf: &mut [u8])
+        requires { offset + length buf.old ≤ self.now.size }
+        ensures { buf.new ≡ part (flat_image self.now) offset (length buf.old) }
+    {
+        let end = offset + buf.len();
+        buf.copy_from_slice(&self.bytes[offset..end]);
+    }
+
+    // Puts bytes into the image.
+    pub(super) fn put(&mut self, offset: usize, bytes: &[u8])
+        requires { offset + length bytes.now ≤ self.old.size }
+        ensures changed { Changed self.old.size (flat_memory self.old) (flat_memory self.new) (overwritten (flat_image self.old) offset bytes.now) }
+        ensures size { self.new.size ≡ self.old.size }
+        ensures lender { self.new.bytes.ghost_name ≡ self.old.bytes.ghost_name }
+    {
+        let end = offset + bytes.len();
+        self.bytes[offset..end].copy_from_slice(bytes);
+    }
+
+    // Puts zeros into the image.
+    pub(super) fn clear(&mut self, offset: usize, count: usize)
+        requires { offset + count ≤ self.old.size }
+        ensures changed { Changed self.old.size (flat_memory self.old) (flat_memory self.new) (overwritten (flat_image self.old) offset (replicate count 0)) }
+        ensures size { self.new.size ≡ self.old.size }
+        ensures lender { self.new.bytes.ghost_name ≡ self.old.bytes.ghost_name }
+    {
+        self.bytes[offset..offset + count].fill(0);
+    }
+
+    // Zeros from the size up to a larger one.
+    pub(super) fn clear_growth(&mut self, size: usize)
+        requires { size ≤ flat_room (flat_memory self.old) }
+        ensures changed { Changed size (flat_memory self.old) (flat_memory self.new) (resized (flat_image self.old) size) }
+        ensures lender { self.new.bytes.ghost_name ≡ self.old.bytes.ghost_name }
+    {
+        let from = size.min(self.size as usize);
+        self.bytes[from..size].fill(0);
+    }
+}

@@ -1,0 +1,95 @@
+// The image that a case works on, with the memory that it lies in. Memory holds AA everywhere before
+// the image is opened.
+ghost use Rattle.std.specs.Prelude.{◌≡◌, ◌*◌, IfOk, OnOk, min, replicate};
+ghost use Rattle.store.specs.Flat.{flat_image};
+ghost use Rattle.paged.specs.Paged.{paged_image};
+
+use anyhow::anyhow;
+use paged::PagedImage;
+use std::alloc::{AllocError, Global};
+use store::{FlatImage, Store};
+
+// What an image lies in: so many bytes of memory, or a map of so many places and a pool of so many pages.
+#[derive(Clone, Copy)]
+pub enum Room {
+    Flat { bytes: usize },
+    Paged { places: usize, pages: usize },
+}
+
+// The memory of a flat image.
+#[derive(Drop)]
+pub struct Memory {
+    bytes: Vec<u8>,
+}
+
+// The map and the pool of a paged image.
+#[derive(Drop)]
+pub struct Pages {
+    map: Vec<u32>,
+    pool: Vec<u8>,
+}
+
+impl Memory {
+    // So many bytes of memory.
+    pub fn new(heap: Global, room: usize) -> Result<Memory, AllocError>
+        ensures { IfOk result (λ memory. memory.bytes.items ≡ replicate room 170) }
+    {
+        let bytes = vec![in heap; 0xaau8; room]?;
+        Ok(Memory { bytes })
+    }
+
+    // A flat image in the memory, which is these bytes.
+    pub fn open(&mut self, first: &[u8]) -> anyhow::Result<FlatImage<'_>>
+        ensures { IfOk result (λ image. flat_image image ≡ first.now) }
+    {
+        let mut flat = FlatImage::open(&mut self.bytes, 0);
+        fill(&mut flat, first)?;
+        Ok(flat)
+    }
+}
+
+impl Pages {
+    // A map of so many places, 65536 at most, and a pool of so many pages, 65535 at most.
+    pub fn new(heap: Global, places: usize, pages: usize) -> Result<Pages, AllocError>
+        ensures map { IfOk result (λ room. room.map.items ≡ replicate (min places 65536) 0) }
+        ensures pool { IfOk result (λ room. room.pool.items ≡ replicate (min pages 65535 * 256) 170) }
+    {
+        let map = vec![in heap; 0u32; places.min(65536)]?;
+        let pool = vec![in heap; 0xaau8; pages.min(65535) * 256]?;
+        Ok(Pages { map, pool })
+    }
+
+    // A paged image in the pool, which is these bytes.
+    pub fn open(&mut self, first: &[u8]) -> anyhow::Result<PagedImage<'_>>
+        ensures { IfOk result (λ image. paged_image image ≡ first.now) }
+    {
+        let mut paged = PagedImage::open(&mut self.map, &mut self.pool);
+        fill(&mut paged, first)?;
+        Ok(paged)
+    }
+}
+
+// Makes an image of these bytes.
+fn fill<S: Store>(image: &mut S, bytes: &[u8]) -> anyhow::Result<()>
+    ensures { OnOk result (S.image image.new ≡ bytes.now) }
+{
+    if image.resize(bytes.len() as u64).is_err() || image.write(0, bytes).is_err() {
+        return Err(anyhow!("the first image does not fit"));
+    }
+    Ok(())
+}
+
+// The bytes of an image.
+pub fn contents<S: Store>(heap: Global, image: &S) -> anyhow::Result<Vec<u8>>
+    ensures { IfOk result (λ bytes. bytes.items ≡ S.image image.now) }
+{
+    let size = image.size();
+    if size > 1 << 20 {
+        return Err(anyhow!("the image is too large to show"));
+    }
+    let mut bytes = vec![in heap; 0u8; size as usize]?;
+    if image.read(0, &mut bytes).is_err() {
+        return Err(anyhow!("the image was not read"));
+    }
+    Ok(bytes)
+}

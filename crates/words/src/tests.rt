@@ -1,0 +1,30 @@
+// What no clause says: that with memory at hand nothing gives up.
+use super::{Memory, Pages, contents, decoded, encoded, told};
+use fault::{Cause, Fault};
+use std::test::Fail;
+
+// An image of either kind is opened, and its bytes are told.
+#[test]
+fn images_are_opened(rt: HostRuntime) -> Result<(), Fail> {
+    let heap = rt.alloc();
+    let mut memory = Memory::new(heap, 8)?;
+    let flat = memory.open(b"abc")?;
+    assert_eq!(rt; contents(heap, &flat)?.as_slice(), b"abc".as_slice());
+    let mut pages = Pages::new(heap, 2, 1)?;
+    let paged = pages.open(b"abc")?;
+    assert_eq!(rt; contents(heap, &paged)?.as_slice(), b"abc".as_slice());
+    Ok(())
+}
+
+// Bytes are read and spelled, and answers told.
+#[test]
+fn words_are_made(rt: HostRuntime) -> Result<(), Fail> {
+    let heap = rt.alloc();
+    let bytes = decoded(heap, "00ff7a")?;
+    assert_eq!(rt; bytes.as_slice(), [0, 255, 122].as_slice());
+    assert_eq!(rt; encoded(heap, &bytes)?.as_str(), "00ff7a");
+    assert_eq!(rt; told(heap, Ok(7u64))?.as_str(), "7");
+    let refused: Result<u64, Fault> = Err(Fault::new(Cause::ShortBuffer, 9));
+    assert_eq!(rt; told(heap, refused)?.as_str(), "14 1 9 0 0");
+    Ok(())
+}
