@@ -31,6 +31,16 @@ def code_lines(text):
 FUNCTION = re.compile(r"\bfn (\w+)")
 
 
+def closing(text, at):
+    """Where the brace that opens at a place is closed."""
+    level = 0
+    while True:
+        level += {"{": 1, "}": -1}.get(text[at], 0)
+        if level == 0:
+            return at
+        at += 1
+
+
 def functions(text):
     """(name, line, signature with clauses, body) of each function."""
     for found in FUNCTION.finditer(text):
@@ -52,29 +62,13 @@ def functions(text):
             elif c == "{" and depth == 0:
                 head = text[start:at].rstrip().split("\n")[-1].strip()
                 if re.match(r"(requires|ensures)\b[^{]*$", head):
-                    level = 0
-                    while True:
-                        if text[at] == "{":
-                            level += 1
-                        elif text[at] == "}":
-                            level -= 1
-                            if level == 0:
-                                break
-                        at += 1
+                    at = closing(text, at)
                 else:
                     break
             at += 1
         if at < 0 or at >= len(text):
             continue
-        level, end = 0, at
-        while True:
-            if text[end] == "{":
-                level += 1
-            elif text[end] == "}":
-                level -= 1
-                if level == 0:
-                    break
-            end += 1
+        end = closing(text, at)
         yield found.group(1), text.count("\n", 0, start) + 1, text[start:at], text[at : end + 1]
 
 

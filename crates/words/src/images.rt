@@ -1,8 +1,10 @@
 // The image that a case works on, with the memory that it lies in. Memory holds AA everywhere before
 // the image is opened.
 ghost use Rattle.std.specs.Prelude.{◌≡◌, ◌*◌, IfOk, OnOk, min, replicate};
-ghost use Rattle.store.specs.Flat.{flat_image};
-ghost use Rattle.paged.specs.Paged.{paged_image};
+ghost use Rattle.store.specs.Flat.{flat_image, flat_holds};
+ghost use Rattle.store.specs.Memory.{flat_set};
+ghost use Rattle.paged.specs.Pages.{paged_set};
+ghost use Rattle.paged.specs.Paged.{paged_image, paged_holds};
 
 use anyhow::anyhow;
 use paged::PagedImage;
@@ -38,9 +40,10 @@ impl Memory {
         Ok(Memory { bytes })
     }
 
-    // A flat image in the memory, which is these bytes.
+    // A flat image over all of the memory, which is these bytes.
     pub fn open(&mut self, first: &[u8]) -> anyhow::Result<FlatImage<'_>>
-        ensures { IfOk result (λ image. flat_image image ≡ first.now) }
+        ensures image { IfOk result (λ image. flat_image image ≡ first.now) }
+        ensures holds { IfOk result (λ image. flat_holds image ≡ flat_set self.old.bytes.items) }
     {
         let mut flat = FlatImage::open(&mut self.bytes, 0);
         fill(&mut flat, first)?;
@@ -59,9 +62,10 @@ impl Pages {
         Ok(Pages { map, pool })
     }
 
-    // A paged image in the pool, which is these bytes.
+    // A paged image over all of the map and the pool, which is these bytes.
     pub fn open(&mut self, first: &[u8]) -> anyhow::Result<PagedImage<'_>>
-        ensures { IfOk result (λ image. paged_image image ≡ first.now) }
+        ensures image { IfOk result (λ image. paged_image image ≡ first.now) }
+        ensures holds { IfOk result (λ image. paged_holds image ≡ paged_set self.old.map.items self.old.pool.items) }
     {
         let mut paged = PagedImage::open(&mut self.map, &mut self.pool);
         fill(&mut paged, first)?;
@@ -71,7 +75,8 @@ impl Pages {
 
 // Makes an image of these bytes.
 fn fill<S: Store>(image: &mut S, bytes: &[u8]) -> anyhow::Result<()>
-    ensures { OnOk result (S.image image.new ≡ bytes.now) }
+    ensures same { S.holds image.new ≡ S.holds image.old }
+    ensures image { OnOk result (S.image image.new ≡ bytes.now) }
 {
     if image.resize(bytes.len() as u64).is_err() || image.write(0, bytes).is_err() {
         return Err(anyhow!("the first image does not fit"));
