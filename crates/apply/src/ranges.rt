@@ -65,7 +65,7 @@ fn apply_range<S: Store>(
 }
 
 // Applies ranges in turn, numbered from 1. Ranges and parts rise, so those parts that begin inside a
-// range lie behind those of the range before it.
+// range lie behind those of the range before it. (With `enumerate`, since a step has to know its record's number.)
 pub(crate) fn apply_ranges<S: Store>(
     stream: StreamParts,
     ranges: &[Run<RangeMark>],

@@ -15,7 +15,7 @@ mod kinds;
 pub use kinds::{Cause, Fault, Layer};
 
 impl Layer {
-    // The layer's number, 1 to 4.
+    // The layer's number, 1 to 4: what C is answered and what is printed. (A cast; a call, so that it has a contract.)
     pub fn number(self) -> u64
         ensures { result ≡ layer_number self }
     {
@@ -44,7 +44,7 @@ impl Fault {
         Fault { layer, ..self }
     }
 
-    // The same fault, in a record.
+    // The same fault, in a record. (Of one shape with `in_entry`: each sets the field that it is named for.)
     pub fn in_record(self, record: u64) -> Fault
         ensures { result ≡ in_record «record» self }
     {

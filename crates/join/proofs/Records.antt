@@ -1,6 +1,6 @@
 -- The bytes of canonical records, one after another, and their lengths. Assumes nothing.
 use Rattle.std.proofs.Common.{◌≡◌, ℕ, ◌+◌, ◌*◌, ◌^◌, ◌<◌, ◌≤◌, List, [], ◌∷◌, ◌++◌, map, length, get_or, take, drop, None, Option, sym, refl, ap, ◌∙◌, subst, arith}
-use Rattle.std.proofs.lemmas.List.{append_assoc, append-nil, length-append, length-map, get_or-map, drop_more, drop_all, take_more, take_all, map_push}
+use Rattle.std.proofs.lemmas.List.{append_assoc, append-nil, length-append, length-map, get_or-map, drop_more, take_more, map_push}
 use Rattle.std.specs.Option.{option_map}
 use Rattle.overlay.specs.declared.runs.Run.{Run}
 use Rattle.overlay.specs.declared.ranges.RangeMark.{RangeMark}
@@ -143,9 +143,3 @@ module _ (rs : List (Run RangeMark)) (i : ℕ) (lt : i < length rs) where
   -- the run lies below the size
   pub next_under : (q b : ℕ) → Rising q (drop i rs) b → ends (run_of rs i) ≤ b
   next_under q b h = rising_le (ends (run_of rs i)) b (drop (i + 1) rs) (next_rising q b h).2
-
-pub length_end : (rs : List (Run RangeMark)) (i : ℕ) → length rs ≤ i → records_length (drop i rs) ≡ 0
-length_end rs i h = ap records_length (drop_all i rs h)
-
-pub bytes_end : (ds : List (Option Cell)) (rs : List (Run RangeMark)) (i : ℕ) → length rs ≤ i → encodings (map (content_of ds) (take i rs)) ≡ encodings (map (content_of ds) rs)
-bytes_end ds rs i h = ap (λ xs. encodings (map (content_of ds) xs)) (take_all i rs h)

@@ -14,7 +14,8 @@ use std::io::Write;
 use store::{FlatImage, Store};
 use stream::{MOST_RECORDS, Span, Summary, check, read};
 
-// A name of a stream as text, and `-` for the empty one. Names are printable, so they always are text.
+// A name of a stream as text, and `-` for the empty one. Names are printable, so they always are text. (No type's own `Display` is
+// that: a `Span` knows only where the name lies.)
 fn name_text(stream: &[u8], name: Span) -> &str {
     let behind = stream.get(name.place..).unwrap_or(b"");
     let bytes = behind.get(..name.length).unwrap_or(b"");
@@ -53,7 +54,8 @@ pub fn check_file(rt: &HostRuntime, path: &str) -> Result<(), Failure> {
     Ok(())
 }
 
-// How many bytes the list of a stream has: a list into no buffer tells it in its refusal.
+// How many bytes the list of a stream has: a list into no buffer tells it in its refusal. (A match, since that one cause is no refusal
+// here and every other goes on.)
 fn list_length(stream: &[u8]) -> Result<u64, Fault> {
     match list(stream, &mut []) {
         Ok(n) => Ok(n as u64),
@@ -73,7 +75,8 @@ pub fn list_file(rt: &HostRuntime, path: &str) -> Result<(), Failure> {
     Ok(())
 }
 
-// A refusal of a join, told with the stream that has the fault, or with both where they do not fit.
+// A refusal of a join, told with the stream that has the fault, or with both where they do not fit. (A match: each arm has words of
+// its own.)
 fn refused_join(heap: Global, earlier: &str, later: &str, fault: Fault) -> Failure {
     match (fault.layer, fault.entry) {
         (Layer::Stream, 0) => Failure::about(heap, earlier, fault),
@@ -122,7 +125,7 @@ fn room_for(before: u64, after: u64) -> u64
     }
 }
 
-// A refusal of an apply: one of the store is told with the image, any other with the stream.
+// A refusal of an apply: one of the store is told with the image, any other with the stream. (A match, as in `refused_join`.)
 fn refused_apply(heap: Global, stream: &str, image: &str, fault: Fault) -> Failure {
     let path = match fault.layer {
         Layer::Store => image,

@@ -22,7 +22,7 @@ pub fn read_file(rt: &HostRuntime, path: &str) -> Result<Vec<u8>, Failure> {
 }
 
 // Whether a file stands at a path. Anything else there, as a folder, a device or a link, is an error,
-// since another file is going to take the path's name.
+// since another file is going to take the path's name. (A match, since of all errors one alone is an answer.)
 fn stands(rt: &HostRuntime, path: &str) -> io::Result<bool> {
     match fs::symlink_metadata(rt, path) {
         Ok(found) if found.is_file() => Ok(true),

@@ -16,7 +16,7 @@ mod samples;
 mod series;
 mod tour;
 
-// Carries a command out.
+// Carries a command out. (A match: the commands are a closed list.)
 fn carry_out(rt: &HostRuntime, command: Command) -> Result<(), Failure> {
     match command {
         Command::Check { file } => check_file(rt, file),

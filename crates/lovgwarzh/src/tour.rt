@@ -1,5 +1,6 @@
 // A tour of the work: it writes a difference stream, checks it, lists it, shows refusals, joins two
-// streams, applies the join, and plays a series of calls on a shelf.
+// streams, applies the join, and plays a series of calls on a shelf. (Most refusals here are what the tour shows: each is matched, and
+// said in words of its own.)
 use crate::samples::{CUT, GROWN, SAMPLE, accepted};
 use crate::series::show_series;
 use anyhow::anyhow;

@@ -16,7 +16,7 @@ pub struct Answer {
     pub entry: u64,
 }
 
-// The answer to a call that wrote so many bytes, or was refused.
+// The answer to a call that wrote so many bytes, or was refused. (A match: C has one struct for both.)
 impl From<Result<usize, Fault>> for Answer {
     ghost from_gives = { λ r answer. answer ≡ answer_of r };
 

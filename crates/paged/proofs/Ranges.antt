@@ -5,9 +5,9 @@ use Rattle.std.proofs.lemmas.List.{same_lists, places as places-law, get_or-take
 use Rattle.std.proofs.lemmas.Bool.{cases_lt, cases_eq, both_ways}
 use Rattle.store.specs.Images.{overwritten}
 use Rattle.store.proofs.ImageLaws.{length_overwritten, overwritten_after, overwritten_before, overwritten_in, overwritten_parts}
-use Rattle.paged.specs.Pages.{places, reach, page_of, blank, all_pages, filled_from, Ready, Sound}
+use Rattle.paged.specs.Pages.{places, pool_pages, reach, met, page_of, blank, all_pages, filled_from, Ready, Sound}
 use Rattle.paged.specs.PageLaws.{length_all}
-use Rattle.paged.specs.FilledLaws.{blank_at, page_same, filled_step, filled_mono, filled_ready}
+use Rattle.paged.specs.FilledLaws.{blank_at, page_same, filled_step, filled_mono, filled_ready, filled_met}
 use Rattle.paged.proofs.Puts.{over_outside, page_over}
 
 -- the part of a range in page i, where the range meets it: bytes d to m of the range lie there
@@ -110,6 +110,21 @@ part_fills_less n b o bytes m most fits ready end =
     (λ low. ap blank (put j low) ∙ e)
     (λ high. ap blank (page_outside b o first j short (λ p q. inr (omega arith))) ∙ ready j e)
     (cases_lt (256 * j) (o + m)))
+
+-- with a first part of a range there is room while the pool has a spare page for each page that the range meets
+pub spare_room : (table pool spare : List ℕ) (used o : ℕ) (bytes : List ℕ) (m : ℕ) → Sound table pool spare used → o + length bytes ≤ 256 * places table → used + met o (length bytes) ≤ pool_pages pool
+    → filled_from (places table) (overwritten (all_pages table pool) o (take m bytes)) ≤ pool_pages pool
+spare_room table pool spare used o bytes m sound fits room =
+    let all : List ℕ = all_pages table pool in
+    let first : List ℕ = take m bytes in
+    let l1 : length first ≤ length bytes = omega (arith, length-take m bytes) in
+    let short : o + length first ≤ length all = omega (arith, length_all table pool sound.placed.mapped) in
+    omega (
+      arith,
+      sound.counted,
+      filled_met (places table) (o / 256) ((o + length bytes + 255) / 256) (overwritten all o first) all
+          (λ j out e. ap blank (page_outside all o first j short (λ p q. ⊎_elim (λ l. inl (omega arith)) (λ g. inr (omega arith)) out)) ∙ e),
+    )
 
 -- the pages that some bytes meet, up to the first d, are blank if they are to be blank
 abbrev pub ReadyUpTo : ℕ → List ℕ → ℕ → List ℕ → Type 0

@@ -1,6 +1,6 @@
 -- How the count of the pages with a non-zero byte changes. Rests on the definition of pages.
-use Rattle.std.specs.Prelude.{◌≡◌, ℕ, zero, suc, ◌+◌, ◌*◌, ◌/◌, ◌<◌, ◌≤◌, Bool, true, false, cond, ◌≢◌, List, [], ◌∷◌, length, take, drop, ◌==◌, slice_index, refl}
-use Rattle.std.proofs.Common.{sym, ap, ◌∙◌, ⊎_elim, arith, length-take, length-drop}
+use Rattle.std.specs.Prelude.{◌≡◌, ℕ, zero, suc, ◌+◌, ◌-◌, ◌*◌, ◌/◌, ◌<◌, ◌≤◌, ◌⊎◌, Bool, true, false, cond, ◌≢◌, List, [], ◌∷◌, length, take, drop, ◌==◌, slice_index, refl}
+use Rattle.std.proofs.Common.{inl, inr, sym, ap, ◌∙◌, ⊎_elim, arith, length-take, length-drop}
 use Rattle.std.proofs.lemmas.List.{get_or-take, get_or-drop, get_or_past, ext_get_or, drop-drop}
 use Rattle.std.proofs.lemmas.Bool.{cases_lt, eq-eqb, eqb-true, and_parts, both_ways}
 use Rattle.paged.specs.Pages.{page_of, blank, filled_from, filled_pages, Ready}
@@ -70,6 +70,16 @@ filled_ready (suc n) a b h =
     let first = weight_le (blank (take 256 a)) (blank (take 256 b)) (h 0) in
     let more = filled_ready n (drop 256 a) (drop 256 b) (λ j e. ap blank (page_on a j) ∙ h (suc j) (sym (ap blank (page_on b j)) ∙ e)) in
     omega arith
+
+-- where pages from lo up to hi alone may be blank in b and not in a, a has at most so many filled pages more
+pub filled_met : (n lo hi : ℕ) (a b : List ℕ) → ((j : ℕ) → (j < lo) ⊎ (hi ≤ j) → blank (page_of b j) ≡ true → blank (page_of a j) ≡ true) → filled_from n a ≤ filled_from n b + (hi - lo)
+filled_met zero lo hi a b h = omega arith
+filled_met (suc n) lo zero a b h = omega (arith, filled_ready (suc n) a b (λ j e. h j (inr (omega arith)) e))
+filled_met (suc n) zero (suc hi) a b h =
+    omega (arith, weight_small (blank (take 256 a)), filled_met n zero hi (drop 256 a) (drop 256 b) (λ j out e. ap blank (page_on a j) ∙ h (suc j) (⊎_elim (λ l. absurd (omega arith)) (λ g. inr (omega arith)) out) (sym (ap blank (page_on b j)) ∙ e)))
+filled_met (suc n) (suc lo) (suc hi) a b h =
+    let first = weight_le (blank (take 256 a)) (blank (take 256 b)) (h 0 (inl (omega arith))) in
+    omega (arith, first, filled_met n lo hi (drop 256 a) (drop 256 b) (λ j out e. ap blank (page_on a j) ∙ h (suc j) (⊎_elim (λ l. inl (omega arith)) (λ g. inr (omega arith)) out) (sym (ap blank (page_on b j)) ∙ e)))
 
 -- the filled pages of an image are those of its pages, if these hold zeros past its size
 pub filled_cut : (n size : ℕ) (all : List ℕ) → ((p : ℕ) → size ≤ p → slice_index all p ≡ 0) → size ≤ 256 * n → filled_pages (take size all) ≡ filled_from n all

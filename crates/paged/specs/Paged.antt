@@ -15,12 +15,12 @@ paged_image s = take s.size (all_pages s.pages.paging.map.now s.pages.paging.poo
 abbrev pub paged_holds : PagedImage → Images
 paged_holds s = paged_set s.pages.paging.map.now s.pages.paging.pool.now
 
--- past the size, map places and page bytes hold 0
+-- past the size, map places and page bytes hold 0 (the type's ghost fields say it too; each call promises it, for who sees only contracts)
 pub record PastZero (s : PagedImage) : Type 0 where
   pub map_places : Unmapped s.pages.paging.map.now s.size
   pub page_bytes : Ended s.pages.paging.map.now s.pages.paging.pool.now s.size
 
--- what no call touches is as it was before the call
+-- what no call touches is as it was before the call (a relation of before and after, so no invariant)
 abbrev pub Untouched : PagedImage → PagedImage → Type 0
 Untouched before s = Kept before.pages.paging.map.now before.pages.paging.pool.now s.pages.paging.map.now s.pages.paging.pool.now
 

@@ -28,6 +28,10 @@ page_of bytes i = part bytes (256 * i) 256
 abbrev pub reach : ℕ → ℕ → ℕ → ℕ
 reach offset count i = min (256 * i - offset) count
 
+-- how many pages a range meets
+abbrev pub met : ℕ → ℕ → ℕ
+met offset count = (offset + count + 255) / 256 - offset / 256
+
 -- only zeros
 abbrev pub blank : List ℕ → Bool
 blank [] = true

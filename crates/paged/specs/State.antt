@@ -1,6 +1,7 @@
 -- The words of pages, said of the map and the pool together. Rests on the definition of pages.
-use Rattle.std.specs.Prelude.{◌≡◌, ℕ, List, slice_index}
-use Rattle.paged.specs.Pages.{places, pool_pages, all_pages, Sound, Kept}
+use Rattle.std.specs.Prelude.{◌≡◌, ℕ, ◌/◌, ◌<◌, ◌≤◌, List, length, take, slice_index}
+use Rattle.store.specs.Images.{overwritten}
+use Rattle.paged.specs.Pages.{places, pool_pages, all_pages, reach, filled_from, Sound, Kept}
 use Rattle.paged.specs.declared.pages.paging.Paging.{Paging}
 
 -- how many map places, and whole pool pages, are used
@@ -21,7 +22,7 @@ all_of s = all_pages s.map.now s.pool.now
 abbrev pub SoundIn : Paging → Type 0
 SoundIn s = Sound s.map.now s.pool.now s.spare s.used
 
--- what no step touches is as it was
+-- what no step touches is as it was (this and the next relate pages before a step to those after it: no invariant of a type says that)
 abbrev pub KeptBy : Paging → Paging → Type 0
 KeptBy before s = Kept before.map.now before.pool.now s.map.now s.pool.now
 
@@ -29,3 +30,7 @@ KeptBy before s = Kept before.map.now before.pool.now s.map.now s.pool.now
 pub record Becomes (before s : Paging) (all : List ℕ) : Type 0 where
   pub kept : KeptBy before s
   pub pages : all_of s ≡ all
+
+-- the pool has room after each page, where bytes are put into a range page by page
+abbrev pub RoomAlong : Paging → ℕ → List ℕ → Type 0
+RoomAlong s offset bytes = (i : ℕ) → offset / 256 < i → filled_from (places_of s) (overwritten (all_of s) offset (take (reach offset (length bytes) i) bytes)) ≤ pool_of s

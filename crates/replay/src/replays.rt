@@ -9,7 +9,7 @@ use fault::Fault;
 use shelf::Shelf;
 use store::Store;
 
-// Makes one call of a series.
+// Makes one call of a series. (A match: the requests are a closed list.)
 fn make_call<S: Store>(
     shelf: &mut Shelf,
     base: &mut S,

@@ -28,7 +28,7 @@ mod lines;
 mod play;
 mod told;
 
-// Makes a shelf and takes the steps of a series.
+// Makes a shelf and takes the steps of a series. (A refused shelf is matched, since it is told and is the end of a good series.)
 fn play_steps<S: Store>(
     rt: &HostRuntime,
     image: &mut S,

@@ -15,7 +15,8 @@ pub struct Play {
     told: State,
 }
 
-// What a call says that is lent a buffer of so many bytes, and what the buffer then holds.
+// What a call says that is lent a buffer of so many bytes, and what the buffer then holds. (Vectors has one of
+// its own: there a buffer holds other bytes before the call, and is told otherwise.)
 fn with_buffer<F: FnOnce(&mut [u8]) -> Result<usize, Fault>>(
     heap: Global,
     room: usize,
@@ -35,7 +36,7 @@ impl Play {
         Play { shelf, bytes, told }
     }
 
-    // Takes a step, and says what came of it.
+    // Takes a step, and says what came of it. (A match: the steps are a closed list.)
     pub fn take<S: Store>(
         &mut self,
         heap: Global,

@@ -17,7 +17,7 @@ flat_image s = take s.size (flat_memory s)
 abbrev pub flat_holds : FlatImage → Images
 flat_holds s = flat_set (flat_memory s)
 
--- past the size now, the memory is as it was before the call
+-- past the size now, the memory is as it was before the call (a relation of before and after, so no invariant)
 abbrev pub PastKept : FlatImage → FlatImage → Type 0
 PastKept before s = drop s.size (flat_memory s) ≡ drop s.size (flat_memory before)
 

@@ -10,7 +10,8 @@ flat_room memory = min (length memory) (2 ^ 40)
 unfoldable pub flat_set : List ℕ → Images
 flat_set memory image = nat_le (length image) (flat_room memory)
 
--- the memory after a change: its first bytes are the new image, which it can hold, and all past the new size is as it was
+-- the memory after a change: its first bytes are the new image, which it can hold, and all past the new size is as it was (a relation of
+-- before and after, so no invariant)
 pub record Changed (size : ℕ) (memory memory' image' : List ℕ) : Type 0 where
   pub image : take size memory' ≡ image'
   pub past : drop size memory' ≡ drop size memory

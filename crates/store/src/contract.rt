@@ -3,7 +3,8 @@ ghost use Rattle.store.specs.Stores.{Images, Laws, read_outcome, write_outcome, 
 
 use fault::Fault;
 
-// A store, by its image's bytes now and the set of images that it can hold. No call alters the set.
+// A store, by its image's bytes now and the set of images that it can hold. No call alters the set: each says so, and so does each
+// function that calls one, since it relates a store after a call to itself before it, which no invariant does.
 pub trait Store {
     ghost image: { Self → List ℕ };
 

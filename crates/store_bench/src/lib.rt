@@ -7,14 +7,18 @@ ghost use Rattle.std.specs.Prelude.{◌+◌, ◌≤◌, length};
 use paged::PagedImage;
 use store::{FlatImage, Store};
 
-// Writes the same bytes at each of the offsets.
+// Writes the same bytes at each of the offsets. (A loop that counts: with `filter(..).count()` the measurement itself took a
+// tenth of a small write more.)
 fn write_all<S: Store>(image: &mut S, bytes: &[u8], offsets: &[u64]) -> u64
     ensures { result ≤ length offsets.now }
 {
-    offsets
-        .iter()
-        .filter(|offset| image.write(**offset, bytes).is_ok())
-        .count() as u64
+    let mut accepted = 0;
+    for offset in offsets {
+        if image.write(*offset, bytes).is_ok() {
+            accepted += 1;
+        }
+    }
+    accepted
 }
 
 // Zeroes the whole image.

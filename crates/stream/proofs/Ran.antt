@@ -119,10 +119,6 @@ checked_taken o n rest (Write a b d) q h = checked_before _ o
 checked_taken o n rest (Zero a b) q h = checked_before _ o
 checked_taken o n rest End q h = absurd (h refl)
 
-headless : (b : Bool) (p : Pos) (g : Fault) (r : Result (List Content) Fault) (f : Fault) → cond b (Ok p) (Err g) ≡ Err f → cond b r (Err g) ≡ Err f
-headless true p g r f h = differ cc
-headless false p g r f h = cc
-
 -- a reader behind the header reads what the stream comes to
 pub begun : (xs : List ℕ) (r : Result Reader Fault) (x : Reader) → Opened xs r → r ≡ Ok x
     → (x.bytes.now ≡ xs) × (start ≡ pos_of x) × (reads (suc (length x.bytes.now)) (length x.bytes.now) (pos_of x) (rest_of x) ≡ verdict xs)
@@ -136,6 +132,3 @@ begun xs r x o e =
           ∙ ap (λ v. reads (suc (length xs)) (length xs) start (drop v xs)) p
           ∙ sym (cond-true (same (take 12 xs) header) _ _ t.0),
     )
-
-pub not_begun : (xs : List ℕ) (r : Result Reader Fault) (f : Fault) → Opened xs r → r ≡ Err f → verdict xs ≡ Err f
-not_begun xs r f o e = headless (same (take 12 xs) header) _ _ _ f (sym (sym (ap opened e) ∙ o.result))

@@ -70,7 +70,8 @@ impl<'a> Reader<'a> {
         &self.bytes[self.place..]
     }
 
-    // The offset and the length of the next record, as one of data.
+    // The offset and the length of the next record, as one of data. (The writer has a check of its own: here a record that is cut is
+    // told between the two numbers.)
     fn range(&self, reached: Reached) -> Result<(u64, u64), Cause>
         ensures { result ≡ range_of (in_data self.now.place reached) (rest_of self.now) }
     {
@@ -110,7 +111,7 @@ impl<'a> Reader<'a> {
         Ok(Span { place, length })
     }
 
-    // Reads the from name, behind metadata that was read.
+    // Reads the from name, behind metadata that was read. (Of one shape with `take_to`: the kinds of record differ.)
     fn take_from(&mut self, metadata: Metadata) -> Result<Record, Cause>
         ensures { Took self.old self.new (from_step (in_meta self.old.place metadata) (rest_of self.old) (seen_from (seen_of metadata))) result }
     {

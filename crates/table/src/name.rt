@@ -23,6 +23,7 @@ impl Name {
         }
     }
 
+    // The name with these bytes. (No `TryFrom`: where a name is made its length was checked, so this cannot fail.)
     pub fn of(bytes: &[u8]) -> Name
         requires { length bytes.now ≤ 64 }
         ensures { name_of result ≡ bytes.now }
@@ -39,7 +40,7 @@ impl Name {
         &self.bytes[..self.length]
     }
 
-    // Whether this is the name with these bytes.
+    // Whether this is the name with these bytes. (No `==`: it would compare two names, and the other side has only bytes.)
     #[tactic(auto, using(crate::proofs::Names::same_is))]
     pub fn is(&self, name: &[u8]) -> bool
         ensures { result ≡ same name.now (name_of self.now) }

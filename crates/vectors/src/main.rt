@@ -48,7 +48,7 @@ fn apply_to<S: Store>(
     Ok(format!(in heap; "{outcome} {held}")?)
 }
 
-// Runs a case, and says what came of it.
+// Runs a case, and says what came of it. (A match: the cases are a closed list.)
 fn run_case(heap: Global, case: &Case) -> anyhow::Result<String> {
     match case {
         Case::Check { stream } => told(heap, check(stream).map(|()| "accepted")),

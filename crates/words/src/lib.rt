@@ -68,7 +68,7 @@ pub fn encoded(heap: Global, bytes: &[u8]) -> anyhow::Result<String>
     spell(heap, bytes)
 }
 
-// The five numbers of a fault, in decimal, single spaces between.
+// The five numbers of a fault, in decimal, single spaces between. (A fault's own `Display` has its words too.)
 pub fn numbers(heap: Global, fault: Fault) -> anyhow::Result<String>
     ensures { IfOk result (λ text. string_bytes text ≡ numbers_of fault) }
 {
@@ -80,7 +80,7 @@ pub fn numbers(heap: Global, fault: Fault) -> anyhow::Result<String>
     Ok(format!(in heap; "{cause} {layer} {place} {record} {entry}")?)
 }
 
-// What a call answers, or the five numbers of the fault that it is refused with.
+// What a call answers, or the five numbers of the fault that it is refused with. (A match: both ways end in a text.)
 pub fn told<T: Display + Drop>(heap: Global, answer: Result<T, Fault>) -> anyhow::Result<String>
     ensures { IfOk result (λ text. IfSome (told_of T.output answer) (λ bytes. string_bytes text ≡ bytes)) }
 {

@@ -6,7 +6,7 @@ ghost use Rattle.paged.specs.Paged.{paged_image, paged_holds, Untouched};
 use crate::image::PagedImage;
 
 impl<'a> PagedImage<'a> {
-    // Fills the buffer with the bytes from an offset on.
+    // Fills the buffer with the bytes from an offset on. (Of one shape with `put`, around another call.)
     pub(super) fn get(&self, offset: u64, buf: &mut [u8])
         requires { offset + length buf.old ≤ self.now.size }
         ensures { buf.new ≡ part (paged_image self.now) offset (length buf.old) }

@@ -1,7 +1,9 @@
+// What is done to each page of a range. (Loops over the numbers of the pages: an iterator of parts would be no
+// plainer, since each loop is one line around another call, with an invariant of its own.)
 ghost use Rattle.std.specs.Prelude.{◌≡◌, ◌+◌, ◌*◌, ◌≤◌, length, replicate, nat_le};
 ghost use Rattle.store.specs.Images.{part, overwritten};
-ghost use Rattle.paged.specs.Pages.{filled_from, Ready};
-ghost use Rattle.paged.specs.State.{places_of, pool_of, all_of, KeptBy, Becomes};
+ghost use Rattle.paged.specs.Pages.{met, filled_from, Ready};
+ghost use Rattle.paged.specs.State.{places_of, pool_of, all_of, KeptBy, Becomes, RoomAlong};
 
 use crate::pages::Pages;
 use crate::pages::parts::Part;
@@ -30,6 +32,8 @@ impl<'a> Pages<'a> {
     }
 
     // Gives back the pool pages of those pages that would have only zeros with these bytes in the range.
+    // (A call of its own: written out in a write, it takes registers from the loop that puts, and a small write takes longer.)
+    #[inline(never)]
     fn clear_blanks(&mut self, offset: usize, bytes: &[u8])
         requires inside { offset + length bytes.now ≤ 256 * places_of self.old.paging }
         ensures kept { KeptBy self.old.paging self.new.paging }
@@ -42,12 +46,10 @@ impl<'a> Pages<'a> {
         }
     }
 
-    // Puts bytes into a range whose result has no more filled pages than the pool has, and
-    // where each page that is to have only zeros has them by now.
+    // Puts bytes into a range, page by page, where the pool has room after each page.
     fn put_range(&mut self, offset: usize, bytes: &[u8])
         requires inside { offset + length bytes.now ≤ 256 * places_of self.old.paging }
-        requires ready { Ready (all_of self.old.paging) (overwritten (all_of self.old.paging) offset bytes.now) }
-        requires room { filled_from (places_of self.old.paging) (overwritten (all_of self.old.paging) offset bytes.now) ≤ pool_of self.old.paging }
+        requires room { RoomAlong self.old.paging offset bytes.now }
         ensures { Becomes self.old.paging self.new.paging (overwritten (all_of self.old.paging) offset bytes.now) }
     {
         for i in offset / 256..(offset + bytes.len()).div_ceil(256) {
@@ -56,18 +58,44 @@ impl<'a> Pages<'a> {
         }
     }
 
+    // Whether the pool has a spare page for each page that a range meets. Then there is room,
+    // whatever the bytes are, and no page is looked at to tell so.
+    fn has_spare(&self, offset: usize, count: usize) -> bool
+        requires inside { offset + count ≤ 256 * places_of self.now.paging }
+        ensures { result ≡ nat_le (self.now.paging.used + met offset count) (pool_of self.now.paging) }
+    {
+        let met = (offset + count).div_ceil(256) - offset / 256;
+        self.paging.used + met <= self.pool_pages()
+    }
+
+    // Makes room for bytes whose result has no more filled pages than the pool has: where the pool may run short
+    // on the way, pages that become blank are given back first.
+    fn make_room(&mut self, offset: usize, bytes: &[u8])
+        requires inside { offset + length bytes.now ≤ 256 * places_of self.old.paging }
+        requires room { filled_from (places_of self.old.paging) (overwritten (all_of self.old.paging) offset bytes.now) ≤ pool_of self.old.paging }
+        ensures kept { KeptBy self.old.paging self.new.paging }
+        ensures same { overwritten (all_of self.new.paging) offset bytes.now ≡ overwritten (all_of self.old.paging) offset bytes.now }
+        ensures room { RoomAlong self.new.paging offset bytes.now }
+    {
+        if self.has_spare(offset, bytes.len()) {
+            return;
+        }
+        self.clear_blanks(offset, bytes);
+    }
+
     // Puts bytes into a range whose result has no more filled pages than the pool has.
-    // Pages that become blank are given back first.
     pub(crate) fn write_range(&mut self, offset: usize, bytes: &[u8])
         requires inside { offset + length bytes.now ≤ 256 * places_of self.old.paging }
         requires room { filled_from (places_of self.old.paging) (overwritten (all_of self.old.paging) offset bytes.now) ≤ pool_of self.old.paging }
         ensures { Becomes self.old.paging self.new.paging (overwritten (all_of self.old.paging) offset bytes.now) }
     {
-        self.clear_blanks(offset, bytes);
+        self.make_room(offset, bytes);
         self.put_range(offset, bytes);
     }
 
     // How many filled pages there would be with these bytes in the range.
+    // (A call of its own: written out in a write, it takes registers from the loop that puts, and a small write takes longer.)
+    #[inline(never)]
     fn filled_with(&self, offset: usize, bytes: &[u8]) -> usize
         requires inside { offset + length bytes.now ≤ 256 * places_of self.now.paging }
         ensures { result ≡ filled_from (places_of self.now.paging) (overwritten (all_of self.now.paging) offset bytes.now) }
@@ -86,6 +114,9 @@ impl<'a> Pages<'a> {
         requires inside { offset + length bytes.now ≤ 256 * places_of self.now.paging }
         ensures { result ≡ nat_le (filled_from (places_of self.now.paging) (overwritten (all_of self.now.paging) offset bytes.now)) (pool_of self.now.paging) }
     {
+        if self.has_spare(offset, bytes.len()) {
+            return true;
+        }
         self.filled_with(offset, bytes) <= self.pool_pages()
     }
 }

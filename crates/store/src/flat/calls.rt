@@ -43,6 +43,7 @@ impl<'a> Store for FlatImage<'a> {
         self.size
     }
 
+    // (Of one shape with `write`: the range is checked, then another function does the work.)
     fn read(&self, offset: u64, buf: &mut [u8]) -> Result<(), Fault> {
         check_range(offset, buf.len() as u64, self.size)?;
         self.get(offset as usize, buf);

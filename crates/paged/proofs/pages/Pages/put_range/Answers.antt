@@ -5,7 +5,7 @@ use Rattle.store.proofs.ImageLaws.{overwritten_none}
 use Rattle.paged.specs.Pages.{all_pages, places, pool_pages, reach, filled_from}
 use Rattle.paged.specs.PageLaws.{length_all}
 use Rattle.paged.proofs.Steps.{kept_none, kept_on}
-use Rattle.paged.proofs.Ranges.{part_of, over_chunk, length_chunk, part_fills_less}
+use Rattle.paged.proofs.Ranges.{part_of, over_chunk, length_chunk}
 use Rattle.paged.proofs.pages.Pages.put_range.Goals as goal
 
 pub loop-i-init : goal.loop-i-init
@@ -74,11 +74,11 @@ put-requires c =
     let after = ap (λ o. overwritten mid o chunk) p.place
     ∙ ap (λ b. overwritten b (offset + d) chunk) (inv.pages ∙ ap (λ n. overwritten old offset (take n bytes)) (sym told.start))
     ∙ over_chunk old offset bytes d m p.order p.most room in
-    let less = part_fills_less (places s.map.now) old offset bytes m p.most room c.requires.ready (λ h. omega (arith, p.end h)) in
+    let less = ap (λ n. filled_from (places s.map.now) (overwritten old offset (take n bytes))) told.end in
     let same = ap (filled_from (places t.map.now)) after ∙ ap (λ n. filled_from n (overwritten old offset (take m bytes))) width in
     record {
       here = (omega (arith, c.requires.inside), omega (arith, p.place, p.low, p.order));
-      room = omega (arith, c.requires.room);
+      room = omega (arith, c.requires.room (i + 1) (omega (arith, c.loop-i.auto.i)));
     }
 
 pub returns : goal.returns
