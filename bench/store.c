@@ -1,28 +1,17 @@
 /* Writes, zeroing and resizing of images, flat and paged, as ratios to memcpy and memset of the same bytes in the same run.
  *
  * Each time is the best of several rounds. The work of one store call is found by taking away what the same call costs without it. */
-#define _POSIX_C_SOURCE 200809L
-#include <stdint.h>
-#include <stdio.h>
-#include <stdlib.h>
-#include <string.h>
-#include <time.h>
+#include "common.h"
 
 uint64_t bench_flat(uint8_t *memory, size_t room, uint64_t size, const uint8_t *bytes, size_t n, const uint64_t *offsets, size_t count,
                     uint64_t zero, uint64_t grow);
 uint64_t bench_paged(uint32_t *map, size_t places, uint8_t *pool, size_t room, uint64_t size, const uint8_t *bytes, size_t n,
                      const uint64_t *offsets, size_t count, uint64_t zero, uint64_t grow);
 
-enum { PAGES = 65535, ROUNDS = 7, MANY = 60 };
+enum { PAGES = 65535, MANY = 60 };
 static uint8_t *memory, *pool, *other, *bytes;
 static uint32_t *map;
 static uint64_t *offsets;
-
-static double now(void) {
-    struct timespec t;
-    clock_gettime(CLOCK_MONOTONIC, &t);
-    return t.tv_sec + t.tv_nsec * 1e-9;
-}
 
 static uint64_t state = 88172645463325252u;
 static uint64_t next(void) {
@@ -39,54 +28,33 @@ static void place(size_t count, size_t n, uint64_t size, int anywhere) {
 
 struct job { int paged; uint64_t size; size_t n, count; uint64_t zero, grow; };
 
+static uint64_t work(struct job j) {
+    return j.paged ? bench_paged(map, PAGES, pool, (size_t)PAGES * 256, j.size, bytes, j.n, offsets, j.count, j.zero, j.grow)
+                   : bench_flat(memory, (size_t)PAGES * 256, j.size, bytes, j.n, offsets, j.count, j.zero, j.grow);
+}
+
 static double run_rounds(struct job j, int rounds) {
-    double best = 1e9;
-    for (int r = 0; r < rounds; r++) {
-        double t = now();
-        uint64_t done = j.paged
-            ? bench_paged(map, PAGES, pool, (size_t)PAGES * 256, j.size, bytes, j.n, offsets, j.count, j.zero, j.grow)
-            : bench_flat(memory, (size_t)PAGES * 256, j.size, bytes, j.n, offsets, j.count, j.zero, j.grow);
-        t = now() - t;
-        if (done != j.count + (j.zero != 0) + 2 * (j.grow != 0)) {
-            fprintf(stderr, "%llu calls were accepted\n", (unsigned long long)done);
-            exit(1);
-        }
-        if (t < best) best = t;
+    uint64_t done = 0;
+    BEST_OF(best, rounds, done = work(j));
+    if (done != j.count + (j.zero != 0) + 2 * (j.grow != 0)) {
+        fprintf(stderr, "%llu calls were accepted\n", (unsigned long long)done);
+        exit(1);
     }
     return best;
 }
 
 static double run(struct job j) { return run_rounds(j, ROUNDS); }
 
-static double copies(size_t n, size_t count) {
-    double best = 1e9;
-    for (int r = 0; r < ROUNDS; r++) {
-        double t = now();
-        for (size_t i = 0; i < count; i++) {
-            memcpy(other + offsets[i], bytes, n);
-            __asm__ volatile("" ::: "memory");
-        }
-        t = now() - t;
-        if (t < best) best = t;
-    }
-    return best;
-}
-
-static double clears(uint64_t size) {
-    double best = 1e9;
-    for (int r = 0; r < ROUNDS; r++) {
-        double t = now();
-        memset(other, 0, size);
+static void copy_all(size_t n, size_t count) {
+    for (size_t i = 0; i < count; i++) {
+        memcpy(other + offsets[i], bytes, n);
         __asm__ volatile("" ::: "memory");
-        t = now() - t;
-        if (t < best) best = t;
     }
-    return best;
 }
 
 static void writes(const char *what, uint64_t size, size_t n, size_t count, int anywhere) {
     place(count, n, size, anywhere);
-    double base = copies(n, count);
+    BEST(base, copy_all(n, count));
     for (int paged = 0; paged < 2; paged++) {
         struct job j = {paged, size, n, count, 0, 0}, none = j;
         none.count = 0;
@@ -97,11 +65,9 @@ static void writes(const char *what, uint64_t size, size_t n, size_t count, int 
 
 int main(void) {
     size_t whole = (size_t)PAGES * 256;
-    memory = calloc(whole, 1), pool = calloc(whole, 1), other = calloc(whole, 1), bytes = malloc(65536);
-    map = calloc(PAGES, sizeof *map), offsets = calloc(1 << 20, sizeof *offsets);
-    if (!memory || !pool || !other || !bytes || !map || !offsets) return 1;
+    memory = memory_of(whole), pool = memory_of(whole), other = memory_of(whole), bytes = memory_of(65536);
+    map = (uint32_t *)memory_of(PAGES * sizeof *map), offsets = (uint64_t *)memory_of((1 << 20) * sizeof *offsets);
     for (size_t i = 0; i < 65536; i++) bytes[i] = (uint8_t)(1 + i % 255);
-    memset(other, 1, whole);
     printf("images of %zu bytes (65,535 pages) unless a size stands there\n", whole);
     writes("64 KiB, in order", whole, 65536, whole / 65536, 0);
     writes("64 KiB, anywhere", whole, 65536, whole / 65536, 1);
@@ -112,7 +78,7 @@ int main(void) {
         snprintf(what, sizeof what, "64 bytes, size %llu", (unsigned long long)size);
         writes(what, size, 64, 200000, 1);
     }
-    double base = clears(whole);
+    BEST(base, memset(other, 0, whole));
     for (int paged = 0; paged < 2; paged++) {
         place(whole / 65536, 65536, whole, 0);
         struct job full = {paged, whole, 65536, whole / 65536, 0, 0}, zero = full, grow = full;

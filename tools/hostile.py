@@ -14,6 +14,7 @@ import sys
 from pathlib import Path
 
 import reference as ref
+from random_records import rising_records
 from reference import HEADER, LIMIT, data_record, name_record, size_record, stream, write, zero
 
 HOME = Path(__file__).resolve().parent.parent
@@ -54,15 +55,7 @@ class Maker:
         self.rng = random.Random(seed)
 
     def data(self, size, most):
-        rng, found, at = self.rng, [], 0
-        for _ in range(rng.randint(0, most)):
-            at += rng.choice([0, 0, 1, 2, 5])
-            length = rng.choice([1, 1, 2, 3, 8])
-            if at + length > size:
-                break
-            found.append(zero(at, length) if rng.random() < 0.5 else write(at, rng.randbytes(length)))
-            at += length
-        return found
+        return rising_records(self.rng, size, most, [0, 0, 1, 2, 5], [1, 1, 2, 3, 8], 0.5)
 
     def good(self, origin=None, to=None):
         rng = self.rng

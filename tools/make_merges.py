@@ -9,6 +9,7 @@ import subprocess
 import tempfile
 from pathlib import Path
 
+from random_records import rising_records
 from reference import LIMIT, stream, write, zero
 
 OUT = Path(__file__).resolve().parent.parent / "crates" / "vectors" / "data" / "merges.txt"
@@ -24,16 +25,7 @@ def merged(first, second):
 
 
 def records(rng, size, most):
-    """Rising data records in an image of a size, touching ones among them."""
-    found, at = [], 0
-    for _ in range(rng.randint(0, most)):
-        at += rng.choice([0, 0, 1, 2, 7, size // 3])
-        length = rng.choice([1, 2, 3, 5, 16])
-        if at + length > size:
-            break
-        found.append(zero(at, length) if rng.random() < 0.4 else write(at, rng.randbytes(length)))
-        at += length
-    return found
+    return rising_records(rng, size, most, [0, 0, 1, 2, 7, size // 3], [1, 2, 3, 5, 16], 0.4)
 
 
 def difference(rng, origin, to, size, most=8):
