@@ -10,34 +10,34 @@ use Rattle.overlay.specs.declared.payloads.PayloadMark.TheVariants.{Zeroed, Writ
 use Rattle.overlay.specs.declared.payloads.Side.{Side}
 use Rattle.overlay.specs.Runs.{ends, Rising}
 use Rattle.overlay.proofs.Painted.{rising_lower, rising_drop}
-use Rattle.stream.specs.Records.{Content}
+use Rattle.stream.specs.Records.{Content, offset_of}
 use Rattle.stream.specs.Places.{held, held_by}
 use Rattle.stream.specs.Parts.{PayloadIn, PayloadsIn}
-use Rattle.apply.specs.Steps.{numbered, handed, begins, begun_in, steps_from}
+use Rattle.apply.specs.Steps.{numbered, handed, begun_in, steps_from}
 use Rattle.apply.specs.Read.{before}
 
-begins_by : (xs : List ℕ) (o n : ℕ) (m : PayloadMark) → begins (held_by xs o n m) ≡ o
+begins_by : (xs : List ℕ) (o n : ℕ) (m : PayloadMark) → offset_of (held_by xs o n m) ≡ o
 begins_by xs o n Zeroed = refl
 begins_by xs o n (Written side place) = refl
 
 -- a part begins where its record does
-begins_held : (xs : List ℕ) (r : Run PayloadMark) → begins (held xs r) ≡ r.offset
+begins_held : (xs : List ℕ) (r : Run PayloadMark) → offset_of (held xs r) ≡ r.offset
 begins_held xs r = begins_by xs r.offset r.length r.mark
 
 -- a record that begins inside a range, before it, and behind it
 module _ (offset n : ℕ) (c : Content) (cs : List Content) where
-  pub begun_yes : offset ≤ begins c → begins c < offset + n → begun_in offset n (c ∷ cs) ≡ c ∷ begun_in offset n cs
+  pub begun_yes : offset ≤ offset_of c → offset_of c < offset + n → begun_in offset n (c ∷ cs) ≡ c ∷ begun_in offset n cs
   begun_yes h l =
-      cond-true (leb offset (begins c) && ltb (begins c) (offset + n)) _ _
-      (and_from (leb offset (begins c)) (ltb (begins c) (offset + n)) (le-leb offset (begins c) h) (lt-ltb (begins c) (offset + n) l))
+      cond-true (leb offset (offset_of c) && ltb (offset_of c) (offset + n)) _ _
+      (and_from (leb offset (offset_of c)) (ltb (offset_of c) (offset + n)) (le-leb offset (offset_of c) h) (lt-ltb (offset_of c) (offset + n) l))
 
-  pub begun_early : begins c < offset → begun_in offset n (c ∷ cs) ≡ begun_in offset n cs
+  pub begun_early : offset_of c < offset → begun_in offset n (c ∷ cs) ≡ begun_in offset n cs
   begun_early h =
-      cond-false (leb offset (begins c) && ltb (begins c) (offset + n)) _ _ (and_left (leb offset (begins c)) (ltb (begins c) (offset + n)) (lt-leb offset (begins c) h))
+      cond-false (leb offset (offset_of c) && ltb (offset_of c) (offset + n)) _ _ (and_left (leb offset (offset_of c)) (ltb (offset_of c) (offset + n)) (lt-leb offset (offset_of c) h))
 
-  pub begun_late : offset + n ≤ begins c → begun_in offset n (c ∷ cs) ≡ begun_in offset n cs
+  pub begun_late : offset + n ≤ offset_of c → begun_in offset n (c ∷ cs) ≡ begun_in offset n cs
   begun_late h =
-      cond-false (leb offset (begins c) && ltb (begins c) (offset + n)) _ _ (and_right (leb offset (begins c)) (ltb (begins c) (offset + n)) (le-ltb (begins c) (offset + n) h))
+      cond-false (leb offset (offset_of c) && ltb (offset_of c) (offset + n)) _ _ (and_right (leb offset (offset_of c)) (ltb (offset_of c) (offset + n)) (le-ltb (offset_of c) (offset + n) h))
 
 -- how many parts at the front begin before a position
 module _ (p : ℕ) (r : Run PayloadMark) (rs : List (Run PayloadMark)) where

@@ -9,8 +9,7 @@ use Rattle.overlay.specs.Runs.{at}
 use Rattle.store.specs.Images.{resized}
 use Rattle.store.specs.Stores.{Images, done}
 use Rattle.store.proofs.ImageLaws.{length_resized, getD_resized}
-use Rattle.stream.specs.Records.{Content, image_size}
-use Rattle.stream.specs.Places.{data_of, size_in}
+use Rattle.stream.specs.Records.{Content, image_size, data_of, size_in}
 use Rattle.stream.specs.Meaning.{mark_of, laid, cells, ranges}
 use Rattle.stream.specs.Difference.{byte_over, applied}
 use Rattle.stream.specs.Sound.{Sound}

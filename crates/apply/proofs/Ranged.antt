@@ -2,10 +2,10 @@
 use Rattle.std.proofs.Common.{ℕ, ◌^◌, ◌<◌, List, map, subst, arith}
 use Rattle.overlay.specs.declared.runs.Run.{Run}
 use Rattle.overlay.specs.declared.payloads.PayloadMark.{PayloadMark}
-use Rattle.overlay.specs.Marks.{range_moves}
+use Rattle.overlay.specs.Marks.{range_moves, range_of}
 use Rattle.overlay.specs.Runs.{painted, Rising, remarked}
 use Rattle.overlay.proofs.Bridge.{painted_length}
-use Rattle.stream.specs.Parts.{range_of, part_ranges}
+use Rattle.stream.specs.Parts.{part_ranges}
 use Rattle.overlay.proofs.RangeRuns.{ranges_exist}
 
 -- the ranges that parts come to rise up to the size

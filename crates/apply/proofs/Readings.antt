@@ -10,8 +10,8 @@ use Rattle.overlay.specs.declared.payloads.Side.{Side}
 use Rattle.overlay.specs.declared.payloads.Side.TheVariants.{Earlier, Later}
 use Rattle.overlay.specs.Payloads.{stream_of}
 use Rattle.store.specs.Stores.{Images}
-use Rattle.stream.specs.Records.{Content, image_size}
-use Rattle.stream.specs.Places.{held, from_of, data_of}
+use Rattle.stream.specs.Records.{Content, image_size, from_of, data_of}
+use Rattle.stream.specs.Places.{held}
 use Rattle.stream.specs.Gathered.{none, seen, gathered_from}
 use Rattle.stream.specs.Meaning.{cells, ranges}
 use Rattle.stream.specs.Parts.{part_ranges}

@@ -1,8 +1,7 @@
 -- What a sound list of records says of its data records, its size and its ranges. Rests on soundness and on canonical runs.
-use Rattle.std.proofs.Common.{◌≡◌, ℕ, ◌+◌, ◌^◌, ◌<◌, ◌≤◌, List, [], ◌∷◌, ◌++◌, map, length, get_or, None, refl, ap, ◌∙◌, subst, arith}
+use Rattle.std.proofs.Common.{◌≡◌, ℕ, ◌^◌, ◌<◌, ◌≤◌, List, [], ◌∷◌, map, length, get_or, None, refl, ap, ◌∙◌, subst, arith}
 use lib.ListN.{length-map}
 use Rattle.std.specs.Option.{option_map}
-use Rattle.std.specs.List.{AllByRecursion}
 use Rattle.std.proofs.lemmas.List.FromFn.{length-map-range_with_len, get_or-map-range_with_len}
 use Rattle.std.proofs.lemmas.List.{get_or-map}
 use Rattle.overlay.specs.Marks.{range_moves}
@@ -10,38 +9,22 @@ use Rattle.overlay.specs.Runs.{at, Rising, Apart, Runs}
 use Rattle.overlay.specs.States.{over}
 use Rattle.overlay.proofs.Painted.{over_none}
 use Rattle.overlay.proofs.Bridge.{runs_states}
-use Rattle.stream.specs.Records.{Content, from_name, to_name, image_size, data_at, zeros_at}
-use Rattle.stream.specs.Places.{data_of, size_in}
+use Rattle.stream.specs.Records.{Content, from_name, to_name, image_size, data_at, zeros_at, data_of, size_in}
 use Rattle.stream.specs.Meaning.{mark_of, given, laid, cells, ranges}
 use Rattle.stream.specs.Sound.{GoodMeta, Sound}
 use Rattle.stream.specs.Sound as sound
 use Rattle.overlay.proofs.RangeRuns.{ranges_exist}
 use Rattle.stream.proofs.Meanings.{size_first, size_small}
+use Rattle.stream.proofs.Sounds.{data_only, data_behind}
 
 -- metadata before data: the data records are the data, and the size is the metadata's
-data_same : (ds : List Content) (size end : ℕ) → sound.Rising size end ds → data_of ds ≡ ds
-data_same [] size end r = refl
-data_same (from_name name ∷ ds) size end r = absurd r
-data_same (to_name name ∷ ds) size end r = absurd r
-data_same (image_size n ∷ ds) size end r = absurd r
-data_same (data_at o bytes ∷ ds) size end r = ap (λ cs. data_at o bytes ∷ cs) (data_same ds size (o + length bytes) r.3)
-data_same (zeros_at o n ∷ ds) size end r = ap (λ cs. zeros_at o n ∷ cs) (data_same ds size (o + n) r.3)
-
-data_skip : (ms ds : List Content) → AllByRecursion GoodMeta ms → data_of (ms ++ ds) ≡ data_of ds
-data_skip [] ds g = refl
-data_skip (from_name name ∷ ms) ds g = data_skip ms ds g.1
-data_skip (to_name name ∷ ms) ds g = data_skip ms ds g.1
-data_skip (image_size n ∷ ms) ds g = data_skip ms ds g.1
-data_skip (data_at o bytes ∷ ms) ds g = absurd g.0
-data_skip (zeros_at o n ∷ ms) ds g = absurd g.0
-
 module _ (cs : List Content) (s : Sound cs) where
   size_is : size_in 0 cs ≡ size_in 0 s.metas
   size_is = ap (size_in 0) s.whole ∙ size_first s.metas s.datas 0 (size_in 0 s.metas) 0 s.good s.rising
 
   pub sound_rising : sound.Rising (size_in 0 cs) 0 (data_of cs)
   sound_rising =
-      let d : data_of cs ≡ s.datas = ap data_of s.whole ∙ data_skip s.metas s.datas s.good ∙ data_same s.datas (size_in 0 s.metas) 0 s.rising in
+      let d : data_of cs ≡ s.datas = ap data_of s.whole ∙ data_behind s.metas s.datas s.good ∙ data_only s.datas (size_in 0 s.metas) 0 s.rising in
       rw (d, size_is) s.rising
 
   pub sound_small : size_in 0 cs ≤ 2 ^ 40

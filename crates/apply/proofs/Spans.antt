@@ -1,5 +1,5 @@
 -- Each data record lies in one range of its kind, and in no other. Rests on canonical runs, and on what records give a position.
-use Rattle.std.proofs.Common.{◌≡◌, ℕ, ◌+◌, ◌<◌, ◌≤◌, Bool, true, false, cond, ◌&&◌, ltb, leb, ◌⊎◌, List, [], ◌∷◌, length, Some, None, Option, sym, refl, ap, ◌∙◌, inl, inr, arith}
+use Rattle.std.proofs.Common.{◌≡◌, ℕ, ◌+◌, ◌<◌, ◌≤◌, ◌&&◌, ltb, leb, ◌⊎◌, List, [], ◌∷◌, length, Some, None, Option, sym, refl, ap, ◌∙◌, inl, inr, arith}
 use Rattle.std.specs.Option.{option_map}
 use Rattle.std.specs.List.{AllByRecursion}
 use Rattle.std.proofs.lemmas.Bool.{cases_lt}
@@ -13,6 +13,7 @@ use Rattle.overlay.proofs.Painted.{over_none, run_inside, run_after, rising_le, 
 use Rattle.stream.specs.Records.{Content, from_name, to_name, image_size, data_at, zeros_at}
 use Rattle.stream.specs.Meaning.{Cell, mark_of, given, laid}
 use Rattle.stream.specs.Sound as sound
+use Rattle.stream.proofs.Ranged.{kind_cond}
 
 abbrev pub span : ℕ → ℕ → RangeMark → Run RangeMark
 span offset n mark = record { offset = offset; length = n; mark = mark }
@@ -33,10 +34,6 @@ spans_rise (to_name name ∷ ds) size end l h = absurd h
 spans_rise (image_size n ∷ ds) size end l h = absurd h
 spans_rise (data_at o bytes ∷ ds) size end l h = (h.0, h.1, spans_rise ds size (o + length bytes) h.2 h.3)
 spans_rise (zeros_at o n ∷ ds) size end l h = (h.0, h.1, spans_rise ds size (o + n) h.2 h.3)
-
-kind_cond : (t : Bool) (s : Cell) → option_map mark_of (cond t (Some s) None) ≡ cond t (Some (mark_of s)) None
-kind_cond true s = refl
-kind_cond false s = refl
 
 pub kind_none : (s : Option Cell) → option_map mark_of s ≡ None → s ≡ None
 kind_none None e = refl

@@ -4,8 +4,7 @@ use Rattle.fault.specs.Fault.{fault, in_record, fault_by, then}
 use Rattle.fault.specs.declared.kinds.Fault.{Fault}
 use Rattle.fault.specs.declared.kinds.Cause.TheVariants.{NamesDiffer}
 use Rattle.store.specs.Stores.{Images, Outcome, done, and_then, write_outcome, zero_outcome, resize_outcome}
-use Rattle.stream.specs.Records.{Content, from_name, to_name, image_size, data_at, zeros_at}
-use Rattle.stream.specs.Places.{from_of}
+use Rattle.stream.specs.Records.{Content, from_name, to_name, image_size, data_at, zeros_at, from_of}
 use Rattle.stream.specs.Verdict.{verdict, same}
 use Rattle.apply.specs.Steps.{Step, steps}
 

@@ -1,4 +1,5 @@
--- The laws of applying a stream, in the words of images and positions. Rests on what a difference makes of an image, and on the outcomes of apply.
+-- The laws of applying a stream, in the words of images and positions. Rests on the records, on what they mean and
+-- what a difference makes of an image, on sound lists, on the steps and outcomes of apply, on a store's images and on faults.
 use Rattle.std.specs.Prelude.{◌≡◌, ℕ, ◌<◌, true, false, List, [], ◌∷◌, ◌++◌, length, replicate, None, Err, Option, slice_index, slice_index_or}
 use Rattle.fault.specs.Fault.{fault, in_record}
 use Rattle.fault.specs.declared.kinds.Fault.{Fault}

@@ -1,4 +1,5 @@
--- A stream that was read into parts, and the steps that these come to. Rests on the stream's parts and on the steps.
+-- A stream that was read into parts, and the steps that these come to. Rests on the stream's parts and what they say at their
+-- places, on reading and what it promises, on the steps, on Applies, on overlay's runs and on faults.
 use Rattle.std.specs.Prelude.{◌≡◌, ℕ, ◌≤◌, Bool, true, false, List, ◌∷◌, map, length, Ok, Err, Result, nat_lt}
 use Rattle.fault.specs.Fault.{fault}
 use Rattle.fault.specs.declared.kinds.Fault.{Fault}

@@ -4,8 +4,7 @@ use Rattle.std.specs.Prelude.{ℕ, ◌+◌, cond, ◌&&◌, List, [], ◌∷◌,
 use Rattle.overlay.specs.declared.runs.Run.{Run}
 use Rattle.overlay.specs.declared.ranges.RangeMark.{RangeMark}
 use Rattle.overlay.specs.declared.ranges.RangeMark.TheVariants as range
-use Rattle.stream.specs.Records.{Content, from_name, to_name, image_size, data_at, zeros_at}
-use Rattle.stream.specs.Places.{data_of, size_in}
+use Rattle.stream.specs.Records.{Content, from_name, to_name, image_size, data_at, zeros_at, data_of, size_in, offset_of}
 use Rattle.stream.specs.Meaning.{cells, ranges}
 
 -- a record with the number of its canonical record
@@ -24,18 +23,10 @@ writes (image_size n ∷ cs) = writes cs
 writes (data_at offset bytes ∷ cs) = data_at offset bytes ∷ writes cs
 writes (zeros_at offset n ∷ cs) = writes cs
 
--- where a data record begins
-abbrev pub begins : Content → ℕ
-begins (from_name name) = 0
-begins (to_name name) = 0
-begins (image_size n) = 0
-begins (data_at offset bytes) = offset
-begins (zeros_at offset n) = offset
-
 -- the data records of a list that begin inside the n positions from an offset on
 abbrev pub begun_in : ℕ → ℕ → List Content → List Content
 begun_in offset n [] = []
-begun_in offset n (c ∷ cs) = cond (nat_le offset (begins c) && nat_lt (begins c) (offset + n)) (c ∷ begun_in offset n cs) (begun_in offset n cs)
+begun_in offset n (c ∷ cs) = cond (nat_le offset (offset_of c) && nat_lt (offset_of c) (offset + n)) (c ∷ begun_in offset n cs) (begun_in offset n cs)
 
 -- what is handed over for a range, where `inside` are the data records that begin inside it: a z as a whole, a w in its parts
 abbrev pub handed : RangeMark → ℕ → ℕ → List Content → List Content

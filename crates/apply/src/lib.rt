@@ -47,13 +47,9 @@ fn apply_told<S: Store>(
     ensures same { S.holds store.new ≡ S.holds store.old }
     ensures outcome { (result, S.image store.new) ≡ apply_read (S.holds store.old) (S.image store.old) (verdict stream.now) }
 {
-    let sheet = Sheet {
-        runs: &parts[..summary.count],
-        size: summary.size,
-    };
     let read = StreamParts {
         bytes: stream,
-        sheet,
+        sheet: summary.sheet(parts),
     };
     apply_parts(read, store)
 }

@@ -32,8 +32,7 @@ fn leads_from(stream: &[u8], parts: &Parts, summary: Summary, name: &[u8]) -> bo
     requires { Told Later stream.now summary parts.now }
     ensures { Leads name.now stream.now result }
 {
-    let end = summary.from.place + summary.from.length;
-    &stream[summary.from.place..end] == name
+    summary.from.of(stream) == name
 }
 
 // Reads a stream that leads from a name; another is refused.

@@ -1,5 +1,5 @@
--- The worked examples of the rules as one list, and what it means that one holds: the definition that the call's contract cites gives it. Rests on the
--- definitions of check, list, join, apply, the store's calls and the shelf's settle.
+-- The worked examples as one list, and what it means that one holds: the definition that the call's contract cites gives it. Rests on the
+-- definitions of check, list, join, apply, the store's calls, the sets of the two kinds of images, tables and the shelf's settle, and on faults.
 use Rattle.std.specs.Prelude.{◌≡◌, ℕ, List, [], ◌∷◌, ◌++◌, length, replicate, Ok, Err, codes, Result}
 use Rattle.fault.specs.Fault.{fault, in_record}
 use Rattle.fault.specs.declared.kinds.Cause.TheVariants.{Header, Cut, BadRange, NoRoom}

@@ -1,4 +1,4 @@
-// The worked examples of the rules, as one list (specs/Examples.antt), and one theorem: the definitions
+// The worked examples, as one list (specs/Examples.antt), and one theorem: the definitions
 // that the contracts of the calls cite give every one of them.
 #![tactic(auto)]
 

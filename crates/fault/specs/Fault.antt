@@ -99,10 +99,14 @@ in_record i f = record { cause = f.cause; layer = f.layer; place = f.place; «re
 abbrev pub in_entry : ℕ → Fault → Fault
 in_entry i f = record { cause = f.cause; layer = f.layer; place = f.place; «record» = f.«record»; entry = i }
 
--- a result whose fault, if it has one, is changed so
+-- a result whose error, if it has one, is changed so
+abbrev pub err_by : {T E F : Type 0} → (E → F) → Result T E → Result T F
+err_by g (Ok x) = Ok x
+err_by g (Err c) = Err (g c)
+
+-- the same of a result whose error is a fault and stays one
 abbrev pub fault_by : {T : Type 0} → (Fault → Fault) → Result T Fault → Result T Fault
-fault_by g (Ok x) = Ok x
-fault_by g (Err f) = Err (g f)
+fault_by g r = err_by g r
 
 -- what follows a result that has no fault
 abbrev pub then : {A B E : Type 0} → Result A E → (A → Result B E) → Result B E

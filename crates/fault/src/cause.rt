@@ -7,7 +7,8 @@ use crate::kinds::{Cause, Layer};
 use std::fmt;
 
 impl Cause {
-    // The cause's number, 1 to 20: what C is answered and what is printed. (A cast; a call, so that it has a contract.)
+    // The cause's number, 1 to 20: what C is answered and what is printed. (A cast, in a function so that it has a
+    // contract.)
     pub fn number(self) -> u64
         ensures { result ≡ cause_number self }
     {

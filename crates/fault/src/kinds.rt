@@ -23,7 +23,7 @@ pub enum Cause {
     TooManyRecords = 10,
     // bytes after the end record
     Trailing = 11,
-    // the later difference does not begin where the earlier one ends
+    // a difference does not lead from the name that it has to meet
     NamesDiffer = 12,
     // the result would have more than 512 canonical records
     TooManyRanges = 13,
@@ -39,7 +39,7 @@ pub enum Cause {
     NoEntry = 18,
     // the to name is the base name or an entry's to name
     NameTaken = 19,
-    // the shelf's bytes are not what the shelf wrote there
+    // the shelf's bytes end before the fill, or an entry is not canonical or has other names than its row
     Damaged = 20,
 }
 

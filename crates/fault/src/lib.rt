@@ -15,7 +15,8 @@ mod kinds;
 pub use kinds::{Cause, Fault, Layer};
 
 impl Layer {
-    // The layer's number, 1 to 4: what C is answered and what is printed. (A cast; a call, so that it has a contract.)
+    // The layer's number, 1 to 4: what C is answered and what is printed. (A cast, in a function so that it
+    // has a contract.)
     pub fn number(self) -> u64
         ensures { result ≡ layer_number self }
     {
@@ -95,6 +96,7 @@ pub trait Located {
         ensures { result ≡ entered entry self };
 }
 
+// (By the fault's own two methods, and of one shape as they are.)
 impl<T> Located for Result<T, Fault> {
     ghost recorded = { λ i r. fault_by (in_record i) r };
 

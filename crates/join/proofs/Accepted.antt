@@ -2,8 +2,7 @@
 use Rattle.std.proofs.Common.{◌≡◌, ℕ, ◌+◌, ◌*◌, ◌^◌, ◌<◌, ◌≤◌, List, [], ◌∷◌, ◌++◌, length, sym, refl, ap, ◌∙◌, subst, arith, length-append}
 use Rattle.std.specs.List.{AllByRecursion}
 use Rattle.overlay.specs.declared.payloads.Side.TheVariants.{Later}
-use Rattle.stream.specs.Records.{Content, from_name, to_name, image_size, data_at, zeros_at, header, encoded, encodings, encoded_stream}
-use Rattle.stream.specs.Places.{from_of, to_of, size_in}
+use Rattle.stream.specs.Records.{Content, from_name, to_name, image_size, data_at, zeros_at, header, encoded, encodings, encoded_stream, from_of, to_of, size_in}
 use Rattle.stream.specs.Wellformed.{GoodName}
 use Rattle.stream.specs.Gathered.{gathered, none}
 use Rattle.stream.specs.Sound.{GoodMeta, froms, tos, sizes, Rising, Sound}

@@ -1,6 +1,5 @@
 -- A sound stream is canonical exactly if its metadata lie in order and it has the canonical length. Assumes nothing.
 use Rattle.std.proofs.Common.{◌≡◌, ℕ, ◌+◌, ◌-◌, ◌^◌, ◌<◌, ◌≤◌, Bool, true, false, ◌&&◌, eqb, List, [], ◌∷◌, ◌++◌, map, length, Some, Ok, sym, refl, ap, ◌∙◌, subst, arith, length-drop, length-take}
-use Rattle.std.specs.List.{AllByRecursion}
 use Rattle.std.proofs.lemmas.List.{length-append}
 use Rattle.std.proofs.lemmas.Bool.{and_parts, and_from, eqb-true, eq-eqb}
 use Rattle.overlay.specs.declared.runs.Run.{Run}
@@ -8,24 +7,23 @@ use Rattle.overlay.specs.declared.ranges.RangeMark.TheVariants as range
 use Rattle.overlay.specs.declared.payloads.PayloadMark.{PayloadMark}
 use Rattle.overlay.specs.declared.payloads.PayloadMark.TheVariants.{Zeroed, Written}
 use Rattle.overlay.specs.declared.payloads.Side.TheVariants.{Later}
-use Rattle.overlay.specs.Marks.{payload_moves}
+use Rattle.overlay.specs.Marks.{payload_moves, range_of}
 use Rattle.overlay.specs.States.{over}
 use Rattle.overlay.specs.Runs.{ends, at, Rising, remarked}
 use Rattle.overlay.proofs.Painted.{run_inside, run_after, rising_le}
 use Rattle.stream.specs.Bytes.{field}
-use Rattle.stream.specs.Records.{Content, from_name, to_name, image_size, data_at, zeros_at, header, encoded, encodings, encoded_stream, metas}
-use Rattle.stream.specs.Places.{held_by, held, data_of, size_in}
+use Rattle.stream.specs.Records.{Content, data_at, header, encoded, encodings, encoded_stream, metas, data_of, size_in}
+use Rattle.stream.specs.Places.{held_by, held}
 use Rattle.stream.specs.Gathered.{gathered, none}
-use Rattle.stream.specs.Sound as sound
-use Rattle.stream.specs.Sound.{GoodMeta, Sound}
+use Rattle.stream.specs.Sound.{Sound}
 use Rattle.stream.specs.Wellformed.{Bytes}
 use Rattle.stream.specs.Verdict.{same, verdict}
 use Rattle.stream.specs.Meaning.{cells, ranges}
-use Rattle.stream.specs.Parts.{range_of, parts_cells, PayloadIn, PayloadsIn}
+use Rattle.stream.specs.Parts.{parts_cells, PayloadIn, PayloadsIn}
 use Rattle.stream.specs.Difference.{Difference, difference, meaning, content_of, canonical_records, canonical}
 use Rattle.stream.proofs.Back.{same_back, accepted_is_stream}
 use Rattle.stream.proofs.Meanings.{stands_for, encodings_append}
-use Rattle.stream.proofs.Sounds.{sound_exactly}
+use Rattle.stream.proofs.Sounds.{sound_exactly, data_only, data_behind}
 use Rattle.stream.proofs.Told.{places_tell, size_told}
 use Rattle.writer.proofs.Opening.{length_opening}
 use Rattle.join.specs.Lengths.{records_length}
@@ -43,23 +41,6 @@ bool_same : (a b : Bool) → (a ≡ true → b ≡ true) → (b ≡ true → a �
 bool_same true b f g = sym (f refl)
 bool_same false true f g = g refl
 bool_same false false f g = refl
-
--- the data records of a sound list
-data_only : (ds : List Content) (size end : ℕ) → sound.Rising size end ds → data_of ds ≡ ds
-data_only [] size end r = refl
-data_only (from_name n ∷ ds) size end r = absurd r
-data_only (to_name n ∷ ds) size end r = absurd r
-data_only (image_size n ∷ ds) size end r = absurd r
-data_only (data_at o bs ∷ ds) size end r = ap (λ v. data_at o bs ∷ v) (data_only ds size (o + length bs) r.3)
-data_only (zeros_at o n ∷ ds) size end r = ap (λ v. zeros_at o n ∷ v) (data_only ds size (o + n) r.3)
-
-data_behind : (ms ds : List Content) → AllByRecursion GoodMeta ms → data_of (ms ++ ds) ≡ data_of ds
-data_behind [] ds g = refl
-data_behind (from_name n ∷ ms) ds g = data_behind ms ds g.1
-data_behind (to_name n ∷ ms) ds g = data_behind ms ds g.1
-data_behind (image_size n ∷ ms) ds g = data_behind ms ds g.1
-data_behind (data_at o bs ∷ ms) ds g = absurd g.0
-data_behind (zeros_at o n ∷ ms) ds g = absurd g.0
 
 -- the bytes of the records that runs stand for
 record_bytes : (xs : List ℕ) (r : Run PayloadMark) (m : PayloadMark) → r.mark ≡ m → PayloadIn Later xs m r.length → length (encoded (held_by xs r.offset r.length m)) ≡ records_length (record { offset = r.offset; length = r.length; mark = range_of m } ∷ [])

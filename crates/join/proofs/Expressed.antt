@@ -14,9 +14,8 @@ use Rattle.overlay.specs.States.{over}
 use Rattle.overlay.specs.Runs.{ends, at, Rising}
 use Rattle.overlay.proofs.Painted.{over_none, run_inside, run_after, rising_le, at_before}
 use Rattle.overlay.proofs.Bridge.{runs_states}
-use Rattle.stream.specs.Records.{Content, metas}
+use Rattle.stream.specs.Records.{Content, metas, from_of, to_of, size_in}
 use Rattle.stream.specs.Verdict.{verdict}
-use Rattle.stream.specs.Places.{from_of, to_of, size_in}
 use Rattle.stream.specs.Wellformed.{GoodName}
 use Rattle.stream.specs.Sound as sound
 use Rattle.stream.specs.Sound.{GoodMeta, froms, tos, sizes, Sound}

@@ -7,14 +7,14 @@ use Rattle.overlay.specs.declared.runs.Run.{Run}
 use Rattle.overlay.specs.declared.ranges.RangeMark.{RangeMark}
 use Rattle.overlay.specs.declared.ranges.RangeMark.TheVariants as range
 use Rattle.overlay.specs.declared.payloads.PayloadMark.{PayloadMark}
-use Rattle.overlay.specs.Marks.{range_moves, range_alike}
+use Rattle.overlay.specs.Marks.{range_moves, range_alike, range_of}
 use Rattle.overlay.specs.States.{over}
 use Rattle.overlay.specs.Runs.{ends, run_at, at, painted, Rising, Parted, Apart, Runs, remarked}
 use Rattle.overlay.proofs.Painted.{over_assoc, merged_at, rising_le}
 use Rattle.overlay.proofs.Bridge.{counted_same, one_runs}
 use Rattle.overlay.proofs.Remarked.{rising_remarked}
 use Rattle.stream.specs.Meaning.{mark_of, ranges}
-use Rattle.stream.specs.Parts.{range_of, parts_cells}
+use Rattle.stream.specs.Parts.{parts_cells}
 use Rattle.stream.proofs.Ranged.{kinds_painted}
 use Rattle.join.specs.Lengths.{marked_length, record_length, records_length}
 use Rattle.overlay.proofs.RangeRuns.{range_tells}

@@ -10,7 +10,7 @@ use Rattle.overlay.specs.declared.payloads.PayloadMark.{PayloadMark}
 use Rattle.overlay.specs.declared.payloads.PayloadMark.TheVariants.{Zeroed, Written}
 use Rattle.overlay.specs.declared.payloads.Side.{Side}
 use Rattle.overlay.specs.declared.payloads.Side.TheVariants.{Earlier, Later}
-use Rattle.overlay.specs.Marks.{payload_moves, range_moves, range_alike}
+use Rattle.overlay.specs.Marks.{payload_moves, range_moves, range_alike, range_of}
 use Rattle.overlay.specs.Payloads.{stream_of}
 use Rattle.overlay.specs.States.{over, overlaid}
 use Rattle.overlay.specs.Runs.{ends, run_at, at, painted, overlaid_at, Rising, RunsOf, AnswersOf, remarked, runs_from}
@@ -18,7 +18,7 @@ use Rattle.overlay.proofs.Painted.{run_inside, run_before, run_after}
 use Rattle.overlay.proofs.Overlaid.{overlaid_length, maps_through}
 use Rattle.overlay.proofs.Bridge.{overlay_painted}
 use Rattle.stream.specs.Meaning.{zeroed, mark_of, ranges}
-use Rattle.stream.specs.Parts.{cell_of, range_of, parts_cells, PayloadIn, PayloadsIn}
+use Rattle.stream.specs.Parts.{cell_of, parts_cells, PayloadIn, PayloadsIn}
 use Rattle.stream.specs.Difference.{Difference, canonical}
 use Rattle.stream.proofs.Ranged.{kinds_painted}
 use Rattle.join.specs.declared.sources.Source.{Source}

@@ -4,8 +4,7 @@ use Rattle.std.specs.List.{AllByRecursion}
 use Rattle.std.proofs.lemmas.List.{append_assoc, get_or-append_right, get_or-append-add}
 use Rattle.std.proofs.lemmas.Bool.{and_parts, and_from, eqb-true, eq-eqb}
 use Rattle.stream.specs.Bytes.{le_bytes}
-use Rattle.stream.specs.Records.{Content, from_name, to_name, image_size, data_at, zeros_at, header, encodings, encoded_stream, metas}
-use Rattle.stream.specs.Places.{from_of, to_of, size_in}
+use Rattle.stream.specs.Records.{Content, from_name, to_name, image_size, data_at, zeros_at, header, encodings, encoded_stream, metas, from_of, to_of, size_in}
 use Rattle.stream.specs.Sound.{GoodMeta, froms, tos, sizes, Rising, Sound}
 use Rattle.stream.proofs.Meanings.{encodings_append, size_kept}
 use Rattle.join.specs.Orders.{tagged, in_order}

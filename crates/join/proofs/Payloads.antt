@@ -12,12 +12,12 @@ use Rattle.overlay.specs.declared.ranges.RangeMark.{RangeMark}
 use Rattle.overlay.specs.declared.ranges.RangeMark.TheVariants as range
 use Rattle.overlay.specs.declared.payloads.PayloadMark.{PayloadMark}
 use Rattle.overlay.specs.declared.payloads.PayloadMark.TheVariants.{Zeroed, Written}
-use Rattle.overlay.specs.Marks.{payload_moves, place_moves}
+use Rattle.overlay.specs.Marks.{payload_moves, place_moves, range_of}
 use Rattle.overlay.specs.Payloads.{stream_of}
 use Rattle.overlay.specs.Runs.{ends, at, painted}
 use Rattle.overlay.specs.Walks.{shifted, Left, Even}
 use Rattle.stream.specs.Meaning.{Cell}
-use Rattle.stream.specs.Parts.{cell_of, range_of, parts_cells}
+use Rattle.stream.specs.Parts.{cell_of, parts_cells}
 use Rattle.stream.specs.Difference.{byte_over, payload_at}
 use Rattle.join.specs.Lies.{Placed, AllPlaced}
 use Rattle.join.specs.Parts.{Ranged, Held, held_bytes}

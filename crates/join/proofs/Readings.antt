@@ -7,8 +7,8 @@ use Rattle.overlay.specs.declared.payloads.PayloadMark.{PayloadMark}
 use Rattle.overlay.specs.declared.payloads.Side.{Side}
 use Rattle.overlay.specs.declared.payloads.Side.TheVariants.{Earlier, Later}
 use Rattle.overlay.specs.Payloads.{stream_of}
-use Rattle.stream.specs.Records.{Content}
-use Rattle.stream.specs.Places.{held, named, data_of, size_in}
+use Rattle.stream.specs.Records.{Content, data_of, size_in}
+use Rattle.stream.specs.Places.{held, named}
 use Rattle.stream.specs.Sound.{Sound}
 use Rattle.stream.specs.Verdict.{verdict}
 use Rattle.stream.specs.Meaning.{Cell}

@@ -6,14 +6,14 @@ use Rattle.overlay.specs.declared.runs.Run.{Run}
 use Rattle.overlay.specs.declared.ranges.RangeMark.{RangeMark}
 use Rattle.overlay.specs.declared.ranges.RangeMark.TheVariants as range
 use Rattle.overlay.specs.declared.payloads.PayloadMark.{PayloadMark}
-use Rattle.overlay.specs.Marks.{payload_moves, range_moves}
+use Rattle.overlay.specs.Marks.{payload_moves, range_moves, range_of}
 use Rattle.overlay.specs.States.{over}
 use Rattle.overlay.specs.Runs.{ends, at, Rising, Runs}
 use Rattle.overlay.proofs.Painted.{run_inside, run_after, rising_le}
 use Rattle.overlay.proofs.Bridge.{runs_states}
 use Rattle.stream.specs.Records.{Content, header, encoded, encodings, metas}
 use Rattle.stream.specs.Meaning.{Cell, mark_of, ranges}
-use Rattle.stream.specs.Parts.{range_of, parts_cells}
+use Rattle.stream.specs.Parts.{parts_cells}
 use Rattle.stream.specs.Difference.{Difference, payload_at, range_content, content_of, canonical}
 use Rattle.stream.proofs.Ranged.{kinds_agree}
 use Rattle.writer.specs.Fields.{opening}

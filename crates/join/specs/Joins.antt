@@ -1,4 +1,5 @@
--- The join of two streams as bytes, or its refusal, and the canonical stream of one. Rests on differences and faults.
+-- The join of two streams as bytes, or its refusal, and the canonical stream of one. Rests on differences and their ranges, on sources, on
+-- the comparison of names, and on faults.
 use Rattle.std.specs.Prelude.{ℕ, cond, List, length, Ok, Err, Result, nat_lt}
 use Rattle.fault.specs.Fault.{fault, fault_by, in_entry, then}
 use Rattle.fault.specs.declared.kinds.Fault.{Fault}

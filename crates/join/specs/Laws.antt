@@ -1,4 +1,5 @@
--- The laws of joins and of canonical streams, in the words of differences, images and bytes. Rests on Joins and Lengths.
+-- The laws of joins and of canonical streams, in the words of differences, images and bytes. Rests on Joins and Lengths, on differences
+-- and what streams mean, on sound lists, on reading, and on overlay's marks, states and runs.
 use Rattle.std.specs.Prelude.{◌≡◌, ℕ, ◌^◌, ◌<◌, List, map, length, Ok, Option}
 use Rattle.std.specs.Option.{option_map}
 use Rattle.overlay.specs.Marks.{range_moves, range_alike, range_filler}

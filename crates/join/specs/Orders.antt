@@ -1,4 +1,5 @@
--- Whether a stream's metadata lie in the canonical order, by two tags. Rests on the stream format.
+-- Whether a stream's metadata lie in the canonical order, by two tags. Rests on nothing; it repeats the tags f and t and the
+-- header's 12 bytes.
 use Rattle.std.specs.Prelude.{ℕ, ◌+◌, Bool, ◌&&◌, List, [], ◌∷◌, length, ◌==◌, slice_index}
 
 -- whether the record at a place has the tag

@@ -1,4 +1,5 @@
--- The parts of which a joined payload is made: what they say of a range, and the bytes that they name. Rests on the stream's parts.
+-- The parts of which a joined payload is made: what they say of a range, and the bytes that they name. Rests on the stream's parts,
+-- on differences, and on overlay's marks, payloads, runs and walks.
 use Rattle.std.specs.Prelude.{◌≡◌, ℕ, ◌+◌, ◌<◌, ◌≤◌, List, [], ◌∷◌, length, take, drop, Some, None, Option}
 use Rattle.std.specs.Option.{option_map}
 use Rattle.overlay.specs.declared.runs.Run.{Run}

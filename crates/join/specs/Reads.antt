@@ -1,12 +1,13 @@
--- What reading a stream promises of its names, its size and its runs, on the side of a join for which it was read. Rests on the stream's meaning.
+-- What reading a stream promises of its names, its size and its runs, on the side of a join for which it was read. Rests on the
+-- records and what they say at their places, on reading, on sound lists, on the stream's parts, and on overlay's runs and payloads.
 use Rattle.std.specs.Prelude.{◌≡◌, ℕ, ◌^◌, ◌≤◌, List, map, length, Ok}
 use Rattle.overlay.specs.declared.runs.Run.{Run}
 use Rattle.overlay.specs.declared.payloads.PayloadMark.{PayloadMark}
 use Rattle.overlay.specs.declared.payloads.Side.{Side}
 use Rattle.overlay.specs.Payloads.{stream_of}
 use Rattle.overlay.specs.Runs.{Rising}
-use Rattle.stream.specs.Records.{Content}
-use Rattle.stream.specs.Places.{held, data_of, size_in}
+use Rattle.stream.specs.Records.{Content, data_of, size_in}
+use Rattle.stream.specs.Places.{held}
 use Rattle.stream.specs.Verdict.{verdict}
 use Rattle.stream.specs.Sound.{Sound}
 use Rattle.stream.specs.Parts.{parts_cells, PayloadsIn}

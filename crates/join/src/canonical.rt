@@ -12,7 +12,7 @@ use crate::sources::Source;
 use crate::writing::put_stream;
 use fault::{Cause, Fault};
 use overlay::{RangeMark, Run};
-use stream::{MOST_RANGES, find_ranges};
+use stream::{HEADER, MOST_RANGES, find_ranges};
 use writer::Heading;
 
 impl<'s, 'r> Source<'s, 'r> {
@@ -100,9 +100,10 @@ fn in_order(stream: &[u8], from: &[u8]) -> bool
     ensures { result ≡ in_order stream.now from.now }
 {
     if from.is_empty() {
-        byte_at(stream, 12) == b't'
+        byte_at(stream, HEADER.len()) == b't'
     } else {
-        byte_at(stream, 12) == b'f' && byte_at(stream, 17 + from.len()) == b't'
+        byte_at(stream, HEADER.len()) == b'f'
+            && byte_at(stream, HEADER.len() + 5 + from.len()) == b't'
     }
 }
 

@@ -16,7 +16,8 @@ pub(crate) fn record_length(run: Run<RangeMark>) -> u64
     }
 }
 
-// The length of the canonical stream with this heading and these ranges.
+// The length of the canonical stream with this heading and these ranges. (By a loop, as in
+// listing: of `sum` the check does not find that it fits its type.)
 pub(crate) fn stream_length(heading: Heading, records: &[Run<RangeMark>]) -> u64
     requires small { heading.size ≤ 2 ^ 40 }
     requires rising { Rising 0 records.now heading.size }

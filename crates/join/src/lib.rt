@@ -24,7 +24,7 @@ mod writing;
 
 pub use laws::{laws_of_canonical_streams, laws_of_joins};
 pub use pairs::Pair;
-pub use plans::{Plan, joined_length};
+pub use plans::{Plan, Records, joined_length};
 pub use reading::read_source;
 pub use sources::Source;
 

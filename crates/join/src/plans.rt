@@ -1,7 +1,8 @@
-ghost use Rattle.std.specs.Prelude.{◌≡◌, map, length, take, IfOk, Ok};
+ghost use Rattle.std.specs.Prelude.{◌≡◌, map, length, take, drop, IfOk, Ok};
 ghost use Rattle.fault.specs.Fault.{then};
 ghost use Rattle.overlay.specs.Marks.{range_of};
 ghost use Rattle.overlay.specs.Runs.{remarked, Answers};
+ghost use Rattle.overlay.specs.Walks.{Behind};
 ghost use Rattle.stream.specs.Meaning.{ranges};
 ghost use Rattle.join.specs.Joins.{limited, plan_of, joined_stream, pair_join};
 
@@ -13,8 +14,11 @@ use overlay::{PayloadMark, RangeMark, Run, Sheet, overlay};
 use stream::{MOST_RECORDS, mark_ranges};
 use writer::Heading;
 
-// What a join comes to: how many canonical records, and how many bytes. Nothing here allocates: so the
-// records lie in memory that was lent for them, and the count tells how much of it they fill.
+// Places for the canonical records of a join. Nothing here allocates: so these are lent, and a count
+// tells how many are filled.
+pub type Records = [Run<RangeMark>; MOST_RECORDS];
+
+// What a join comes to: how many canonical records, and how many bytes.
 #[derive(Clone, Copy)]
 pub struct Plan {
     pub count: usize,
@@ -23,7 +27,7 @@ pub struct Plan {
 
 impl<'s, 'r> Source<'s, 'r> {
     // The runs of a source by their kinds alone, which go to the front of `out`.
-    fn kinds<'k>(self, out: &'k mut [Run<RangeMark>; MOST_RECORDS]) -> Sheet<'k, RangeMark>
+    fn kinds<'k>(self, out: &'k mut Records) -> Sheet<'k, RangeMark>
         ensures runs { result.runs.now ≡ map (remarked range_of) self.entry.sheet.runs.now }
         ensures size { result.size ≡ self.entry.sheet.size }
     {
@@ -40,7 +44,8 @@ impl<'s, 'r> Pair<'s, 'r> {
     // Puts the ranges of a join to the front of `out` and counts them; None where they are more than it
     // holds.
     fn join_ranges(self, out: &mut [Run<RangeMark>]) -> Option<usize>
-        ensures { Answers (ranges (pair_join self.entry).cells) result out.new }
+        ensures ranges { Answers (ranges (pair_join self.entry).cells) result out.new }
+        ensures behind { Behind 0 result out.old out.new }
     {
         let mut under = [Run::<RangeMark>::NONE; MOST_RECORDS];
         let mut over = [Run::<RangeMark>::NONE; MOST_RECORDS];
@@ -52,9 +57,10 @@ impl<'s, 'r> Pair<'s, 'r> {
     }
 
     // Finds the plan of a join, whose canonical records go to the front of `records`.
-    fn find_plan(self, records: &mut [Run<RangeMark>; MOST_RECORDS]) -> Result<Plan, Fault>
+    fn find_plan(self, records: &mut Records) -> Result<Plan, Fault>
         ensures plan { result ≡ limited (pair_join self.entry) (plan_of (pair_join self.entry)) }
         ensures records { IfOk result (λ plan. take plan.count records.new ≡ ranges (pair_join self.entry).cells) }
+        ensures behind { IfOk result (λ plan. drop plan.count records.new ≡ drop plan.count records.old) }
     {
         let Some(count) = self.join_ranges(records) else {
             return Err(Fault::new(Cause::TooManyRanges, 0));
@@ -71,10 +77,11 @@ impl<'s, 'r> Pair<'s, 'r> {
     }
 
     // Finds the canonical records of a join, which it puts to the front of `records`, and the length of
-    // its stream; refuses more than 512 records. Nothing is written.
-    pub fn plan(self, records: &mut [Run<RangeMark>; MOST_RECORDS]) -> Result<Plan, Fault>
+    // its stream; refuses more than 512 records. No stream is written, and what lies behind the records stays.
+    pub fn plan(self, records: &mut Records) -> Result<Plan, Fault>
         ensures plan { result ≡ limited (pair_join self.entry) (plan_of (pair_join self.entry)) }
         ensures records { IfOk result (λ plan. take plan.count records.new ≡ ranges (pair_join self.entry).cells) }
+        ensures behind { IfOk result (λ plan. drop plan.count records.new ≡ drop plan.count records.old) }
     {
         self.find_plan(records)
     }

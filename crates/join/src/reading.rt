@@ -1,8 +1,6 @@
 ghost use Rattle.std.specs.Prelude.{◌≡◌, ◌≤◌, length, IfOk};
 ghost use Rattle.fault.specs.Fault.{fault_by, in_entry};
 ghost use Rattle.stream.specs.Difference.{meaning};
-ghost use Rattle.stream.specs.Places.{named};
-ghost use Rattle.stream.specs.Told.{SpanIn};
 ghost use Rattle.stream.specs.Verdict.{same};
 ghost use Rattle.join.specs.Joins.{joined_meaning, pair_meant};
 ghost use Rattle.join.specs.Sources.{meant, Sourced};
@@ -10,18 +8,8 @@ ghost use Rattle.join.specs.Sources.{meant, Sourced};
 use crate::pairs::Pair;
 use crate::sources::Source;
 use fault::{Cause, Fault, Located};
-use overlay::{Sheet, Side};
-use stream::{Parts, Span, read};
-
-// The bytes of a name.
-fn name_in(stream: &[u8], span: Span) -> &[u8]
-    requires { SpanIn stream.now span }
-    ensures bytes { result.now ≡ named stream.now span }
-    ensures short { length result.now ≤ 64 }
-{
-    let end = span.place + span.length;
-    &stream[span.place..end]
-}
+use overlay::Side;
+use stream::{Parts, read};
 
 // Reads a stream and puts what it tells together.
 fn gather_source<'s, 'r>(
@@ -34,15 +22,11 @@ fn gather_source<'s, 'r>(
     ensures sourced { IfOk result (λ s. Sourced side s) }
 {
     let summary = read(stream, side, runs)?;
-    let sheet = Sheet {
-        runs: &runs[..summary.count],
-        size: summary.size,
-    };
     Ok(Source {
         bytes: stream,
-        from: name_in(stream, summary.from),
-        to: name_in(stream, summary.to),
-        sheet,
+        from: summary.from.of(stream),
+        to: summary.to.of(stream),
+        sheet: summary.sheet(runs),
     })
 }
 

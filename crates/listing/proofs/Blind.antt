@@ -1,5 +1,5 @@
 -- The list of a stream shows nothing of the payload.
-use Rattle.std.proofs.Common.{◌≡◌, ℕ, suc, ◌+◌, ◌-◌, ◌^◌, ◌≤◌, Bool, true, false, cond, ◌&&◌, ltb, leb, List, [], ◌∷◌, ◌++◌, map, length, take, drop, Some, None, Ok, Err, Result, sym, refl, ap, ◌∙◌, subst, ap₂, append_assoc, arith, length-append}
+use Rattle.std.proofs.Common.{◌≡◌, ℕ, suc, ◌+◌, ◌-◌, ◌^◌, ◌≤◌, cond, ◌&&◌, ltb, leb, List, [], ◌∷◌, ◌++◌, map, length, take, drop, Some, None, Ok, Err, Result, sym, refl, ap, ◌∙◌, subst, ap₂, append_assoc, arith, length-append}
 use mathlib.Core.List.{map-map}
 use Rattle.std.specs.List.{range_with_len}
 use Rattle.std.specs.Option.{option_map}
@@ -12,17 +12,16 @@ use Rattle.overlay.proofs.Overlaid.{mapped_over}
 use Rattle.fault.specs.Fault.{then, fault}
 use Rattle.fault.specs.declared.kinds.Cause.TheVariants.{Header}
 use Rattle.fault.specs.declared.kinds.Fault.{Fault}
-use Rattle.stream.specs.Records.{Content, from_name, to_name, image_size, data_at, zeros_at, encoded, encodings, header}
+use Rattle.stream.specs.Records.{Content, from_name, to_name, image_size, data_at, zeros_at, encoded, encodings, header, size_in}
 use Rattle.stream.specs.Steps.{Pos}
 use Rattle.stream.specs.Verdict.{start, verdict, reads, before, same}
 use Rattle.stream.specs.Wellformed.{Leads, Good, rule_of, moved}
-use Rattle.stream.specs.Places.{size_in}
 use Rattle.overlay.specs.declared.ranges.RangeMark.TheVariants as range
-use Rattle.stream.specs.Meaning.{written, mark_of, given, laid, cells, ranges}
+use Rattle.stream.specs.Meaning.{mark_of, given, laid, cells, ranges}
 use Rattle.stream.specs.Told.{stream_ranges}
 use Rattle.stream.specs.Rule.{State}
 use Rattle.stream.proofs.Forth.{step_forth, read_forth, size_stays, length_positive}
-use Rattle.stream.proofs.Ranged.{map_same}
+use Rattle.stream.proofs.Ranged.{map_same, kind_cond}
 use Rattle.stream.proofs.Refused.{header_tells}
 use Rattle.listing.specs.Text.{listing}
 use Rattle.listing.specs.Laws.{Alike, AllAlike, BlindToPayload}
@@ -102,14 +101,10 @@ all_lead p q (laws.more {c} {d} {cs} {ds} a r) g =
     (g.0, sym (alike_rule p.state a) ∙ g.1, alike_good p a g.2, subst P (alike_moved p g.0 a) (all_lead (moved p c g.0) q r g.3))
 
 -- and their ranges are the same: of a written record only its range shows
-kind_within : (t : Bool) (b : ℕ) → option_map mark_of (cond t (Some (written b)) None) ≡ cond t (Some range.Written) None
-kind_within true b = refl
-kind_within false b = refl
-
 alike_given : {c d : Content} (p : ℕ) → Alike c d → option_map mark_of (given c p) ≡ option_map mark_of (given d p)
 alike_given p laws.same = refl
 alike_given p (laws.payload {o} {bs} {cs} e) =
-    kind_within (leb o p && ltb p (o + length bs)) _ ∙ ap (λ n. cond (leb o p && ltb p (o + n)) (Some range.Written) None) e ∙ sym (kind_within (leb o p && ltb p (o + length cs)) _)
+    kind_cond (leb o p && ltb p (o + length bs)) _ ∙ ap (λ n. cond (leb o p && ltb p (o + n)) (Some range.Written) None) e ∙ sym (kind_cond (leb o p && ltb p (o + length cs)) _)
 
 alike_size : {c d : Content} (cs : List Content) (n : ℕ) → Alike c d → size_in n (c ∷ cs) ≡ size_in n (d ∷ cs)
 alike_size cs n laws.same = refl

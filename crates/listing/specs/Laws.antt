@@ -1,4 +1,5 @@
--- What the list of a stream shows, in the subject's words: the longest runs, and nothing of the payload. Rests on Lists and on reading.
+-- What the list of a stream shows, in the subject's words: the longest runs, and nothing of the payload. Rests on Lists, on what
+-- a stream means, on the records and which of them are good, on where reading begins, and on overlay's runs.
 use Rattle.std.specs.Prelude.{◌≡◌, ℕ, ◌+◌, ◌^◌, ◌<◌, ◌≤◌, ◌⊎◌, List, [], ◌∷◌, ◌++◌, length, Some, None, Option, ◌≢◌, slice_index_or}
 use Rattle.std.specs.Option.{option_map}
 use Rattle.std.specs.List.{AllByRecursion}

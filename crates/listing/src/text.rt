@@ -64,7 +64,8 @@ fn put_line(tail: &mut [u8], run: Run<RangeMark>) -> usize
     kind + 6
 }
 
-// The bytes that the text takes.
+// The bytes that the text takes. (By a loop: tried with `sum`, whose own question, whether the sum fits its
+// type, the check does not answer.)
 fn text_length(ranges: &[Run<RangeMark>]) -> usize
     requires { length ranges.now ≤ 1026 }
     ensures { result ≡ length (listing ranges.now) }

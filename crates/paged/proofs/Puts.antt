@@ -8,7 +8,7 @@ use Rattle.store.specs.Images.{overwritten}
 use Rattle.store.proofs.ImageLaws.{length_overwritten, overwritten_after, overwritten_before, overwritten_in}
 use Rattle.paged.specs.Pages.{places, pool_pages, page_at, page_of, blank, all_pages, filled_from, Mapped, Placed, Sound, Kept}
 use Rattle.paged.specs.PageLaws.{length_page, length_all}
-use Rattle.paged.specs.FilledLaws.{blank_all, blank_at, getD_page, page_same, filled_step, weight_one, weight_none}
+use Rattle.paged.proofs.FilledLaws.{blank_all, blank_at, getD_page, page_same, filled_step, weight_one, weight_none}
 use Rattle.paged.proofs.Steps.{spot, page_spot, at_spot}
 
 -- page i is the page of its map value

@@ -7,7 +7,7 @@ use Rattle.store.specs.Images.{overwritten}
 use Rattle.store.proofs.ImageLaws.{length_overwritten, overwritten_after, overwritten_before, overwritten_in, overwritten_parts}
 use Rattle.paged.specs.Pages.{places, pool_pages, reach, met, page_of, blank, all_pages, filled_from, Ready, Sound}
 use Rattle.paged.specs.PageLaws.{length_all}
-use Rattle.paged.specs.FilledLaws.{blank_at, page_same, filled_step, filled_mono, filled_ready, filled_met}
+use Rattle.paged.proofs.FilledLaws.{blank_at, page_same, filled_step, filled_mono, filled_ready, filled_met}
 use Rattle.paged.proofs.Puts.{over_outside, page_over}
 
 -- the part of a range in page i, where the range meets it: bytes d to m of the range lie there
@@ -111,7 +111,7 @@ part_fills_less n b o bytes m most fits ready end =
     (λ high. ap blank (page_outside b o first j short (λ p q. inr (omega arith))) ∙ ready j e)
     (cases_lt (256 * j) (o + m)))
 
--- with a first part of a range there is room while the pool has a spare page for each page that the range meets
+-- after the first m bytes of a range are put there is room, while the pool has a spare page for each page that the range meets
 pub spare_room : (table pool spare : List ℕ) (used o : ℕ) (bytes : List ℕ) (m : ℕ) → Sound table pool spare used → o + length bytes ≤ 256 * places table → used + met o (length bytes) ≤ pool_pages pool
     → filled_from (places table) (overwritten (all_pages table pool) o (take m bytes)) ≤ pool_pages pool
 spare_room table pool spare used o bytes m sound fits room =

@@ -6,7 +6,8 @@ use Rattle.std.proofs.lemmas.Bool.{cases_lt, cases_eq}
 use Rattle.store.specs.Images.{overwritten}
 use Rattle.store.proofs.ImageLaws.{length_overwritten, drop_overwritten, overwritten_in, overwritten_before, overwritten_after}
 use Rattle.paged.specs.Pages.{places, pool_pages, page_at, all_pages, Mapped, Apart, SpareIn, SpareApart, SpareFree, Placed, Kept}
-use Rattle.paged.specs.PageLaws.{zero_page, length_all, getD_pages, all_mapped}
+use Rattle.paged.specs.PageLaws.{length_all, all_mapped}
+use Rattle.paged.proofs.PageBytes.{zero_page, getD_pages}
 
 -- the byte at place r of a map value's page
 abbrev pub spot : List ℕ → ℕ → ℕ → ℕ

@@ -6,8 +6,9 @@ use Rattle.std.proofs.lemmas.Bool.{cases_lt, le-leb, eqb-true}
 use Rattle.store.specs.Images.{overwritten, resized}
 use Rattle.store.proofs.ImageLaws.{getD_resized, length_overwritten, length_resized, overwritten_after, overwritten_before, overwritten_in, take_overwritten}
 use Rattle.paged.specs.Pages.{places, pool_pages, all_pages, filled_from, filled_pages, paged_set, ZeroFrom, Ended, Sound, Valid}
-use Rattle.paged.specs.PageLaws.{length_all, length_image}
-use Rattle.paged.specs.FilledLaws.{filled_cut, filled_mono, page_blank}
+use Rattle.paged.specs.PageLaws.{length_all}
+use Rattle.paged.proofs.PageBytes.{length_image}
+use Rattle.paged.proofs.FilledLaws.{filled_cut, filled_mono, page_blank}
 use Rattle.paged.proofs.Puts.{and_true}
 use Rattle.paged.specs.declared.image.PagedImage.{PagedImage}
 

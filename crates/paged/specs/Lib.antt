@@ -1,4 +1,3 @@
-pub mod FilledLaws
 pub mod PageLaws
 pub mod Paged
 pub mod Pages

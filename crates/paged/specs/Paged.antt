@@ -1,10 +1,11 @@
--- What a paged image means. Rests on the contract of a store, and on the pages that have the image.
+-- What a paged image means. Rests on the contract of a store, and on the pages that have the image, with their map and pool.
 use Rattle.std.specs.Prelude.{ℕ, ◌*◌, List, length, take, nat_le}
 use Rattle.std.proofs.Common.{arith, length-take}
 use Rattle.store.specs.Stores.{Images, Laws}
 use Rattle.std.proofs.lemmas.Bool.{le-leb, leb-true, and_from, and_parts}
 use Rattle.paged.specs.PageLaws.{length_all}
-use Rattle.paged.specs.Pages.{all_pages, paged_set, places, pool_pages, filled_pages, Ended, Unmapped, Kept}
+use Rattle.paged.specs.Pages.{all_pages, paged_set, places, pool_pages, filled_pages, Ended, Unmapped}
+use Rattle.paged.specs.State.{KeptBy}
 use Rattle.paged.specs.declared.image.PagedImage.{PagedImage}
 
 -- its bytes now
@@ -15,14 +16,14 @@ paged_image s = take s.size (all_pages s.pages.paging.map.now s.pages.paging.poo
 abbrev pub paged_holds : PagedImage → Images
 paged_holds s = paged_set s.pages.paging.map.now s.pages.paging.pool.now
 
--- past the size, map places and page bytes hold 0 (the type's ghost fields say it too; each call promises it, for who sees only contracts)
+-- past the size, map places and page bytes hold 0 (the type's ghost fields say it too; each call promises it, for whoever sees only contracts)
 pub record PastZero (s : PagedImage) : Type 0 where
   pub map_places : Unmapped s.pages.paging.map.now s.size
   pub page_bytes : Ended s.pages.paging.map.now s.pages.paging.pool.now s.size
 
 -- what no call touches is as it was before the call (a relation of before and after, so no invariant)
 abbrev pub Untouched : PagedImage → PagedImage → Type 0
-Untouched before s = Kept before.pages.paging.map.now before.pages.paging.pool.now s.pages.paging.map.now s.pages.paging.pool.now
+Untouched before s = KeptBy before.pages.paging s.pages.paging
 
 pub paged_laws : Laws paged_image paged_holds
 unfolding paged_set

@@ -1,4 +1,4 @@
--- The words of pages, said of the map and the pool together. Rests on the definition of pages.
+-- The definitions of pages, taken of the map and the pool together. Rests on the definition of pages, and on the store's images.
 use Rattle.std.specs.Prelude.{◌≡◌, ℕ, ◌/◌, ◌<◌, ◌≤◌, List, length, take, slice_index}
 use Rattle.store.specs.Images.{overwritten}
 use Rattle.paged.specs.Pages.{places, pool_pages, all_pages, reach, filled_from, Sound, Kept}

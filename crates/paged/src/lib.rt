@@ -5,3 +5,4 @@ mod image;
 mod pages;
 
 pub use image::PagedImage;
+pub use pages::{PLACES, POOL};

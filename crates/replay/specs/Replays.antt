@@ -1,5 +1,5 @@
 -- A series of calls that is really made: each call as it is asked for, with the window of a buffer that it is lent, and what is left in the end. Rests
--- on series of calls and on the promise about them.
+-- on series of calls and their outcomes, on the promise about them, on tables, on requests and on the images of a store.
 use Rattle.std.specs.Prelude.{◌≡◌, ℕ, ◌+◌, List, [], ◌∷◌, ◌++◌, map, length, take, drop, Ok, Err, Result}
 use Rattle.fault.specs.declared.kinds.Fault.{Fault}
 use Rattle.store.specs.Stores.{Images}

@@ -17,7 +17,8 @@ fn tell_nothing(r: Result<(), Fault>) -> Result<usize, Fault>
     r.map(|()| 0)
 }
 
-// Puts a stream, handed the first of the shelf's bytes. (Of one shape with `settle_handed`: the calls and their contracts differ.)
+// Puts a stream, handed the first of the shelf's bytes. (Of one shape with `settle_handed`: the calls and
+// their contracts differ.)
 #[tactic(auto, using(crate::proofs::Handed::handed_is, crate::proofs::Handed::beyond_is))]
 pub(crate) fn put_handed(
     shelf: &mut Shelf,

@@ -1,6 +1,6 @@
 use anyhow::anyhow;
 use std::alloc::Global;
-use words::{Room, decoded};
+use words::{Room, decoded, words_of};
 
 // What a series opens with: what its image lies in and is, the shelf's base name, and how many bytes the
 // shelf has.
@@ -12,7 +12,8 @@ pub struct Opening {
     pub image: Vec<u8>,
 }
 
-// A step of a series. A call is handed the first `handed` of the shelf's bytes, and lent a buffer of
+// A step of a series. (Not a `Request` of replay, whose calls share one buffer: here each is lent one of its
+// own, and bytes can be spoiled.) A call is handed the first `handed` of the shelf's bytes, and lent a buffer of
 // `room` bytes.
 #[derive(Drop)]
 pub enum Step {
@@ -39,10 +40,9 @@ pub enum Step {
     },
 }
 
-// The opening of a line; a word that is missing is empty, and words too many are left out.
+// The opening of a line. (Flat and paged differ in which words there are, so each has an arm.)
 pub fn read_opening(heap: Global, line: &str) -> anyhow::Result<Opening> {
-    let mut words = line.split(' ');
-    match [(); 6].map(|()| words.next().unwrap_or("")) {
+    match words_of(line) {
         ["flat", bytes, name, length, image, _] => Ok(Opening {
             room: Room::Flat {
                 bytes: bytes.parse()?,
@@ -64,15 +64,14 @@ pub fn read_opening(heap: Global, line: &str) -> anyhow::Result<Opening> {
     }
 }
 
-// The step of a line, likewise.
+// The step of a line.
 pub fn read_step(heap: Global, line: &str) -> anyhow::Result<Step> {
-    let mut words = line.split(' ');
-    match [(); 4].map(|()| words.next().unwrap_or("")) {
-        ["put", handed, stream, _] => Ok(Step::Put {
+    match words_of(line) {
+        ["put", handed, stream, ..] => Ok(Step::Put {
             handed: handed.parse()?,
             stream: decoded(heap, stream)?,
         }),
-        ["join", handed, entry, room] => Ok(Step::Join {
+        ["join", handed, entry, room, ..] => Ok(Step::Join {
             handed: handed.parse()?,
             entry: entry.parse()?,
             room: room.parse()?,
@@ -80,12 +79,12 @@ pub fn read_step(heap: Global, line: &str) -> anyhow::Result<Step> {
         ["settle", handed, ..] => Ok(Step::Settle {
             handed: handed.parse()?,
         }),
-        ["list", handed, entry, room] => Ok(Step::List {
+        ["list", handed, entry, room, ..] => Ok(Step::List {
             handed: handed.parse()?,
             entry: entry.parse()?,
             room: room.parse()?,
         }),
-        ["poke", place, bytes, _] => Ok(Step::Poke {
+        ["poke", place, bytes, ..] => Ok(Step::Poke {
             place: place.parse()?,
             bytes: decoded(heap, bytes)?,
         }),

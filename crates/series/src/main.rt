@@ -28,7 +28,8 @@ mod lines;
 mod play;
 mod told;
 
-// Makes a shelf and takes the steps of a series. (A refused shelf is matched, since it is told and is the end of a good series.)
+// Makes a shelf and takes the steps of a series. (A refused shelf is matched, since it is told,
+// and ends the series without an error.)
 fn play_steps<S: Store>(
     rt: &HostRuntime,
     image: &mut S,
@@ -61,6 +62,7 @@ fn play_series(rt: &HostRuntime, lines: &[String]) -> anyhow::Result<()> {
     };
     let heap = rt.alloc();
     let opening = read_opening(heap, first.as_str())?;
+    // (A match: an image lies in one of two kinds of room.)
     match opening.room {
         Room::Flat { bytes } => {
             let mut memory = Memory::new(heap, bytes)?;

@@ -7,7 +7,7 @@ use Rattle.fault.specs.declared.kinds.Fault.{Fault}
 use Rattle.std.proofs.lemmas.Bool.{ltb-false, eqb-false, cases_Bool}
 use Rattle.stream.specs.Bytes.{le, field}
 use Rattle.stream.specs.Rule.{State, from_rule, to_rule, size_rule, late_rule}
-use Rattle.stream.specs.Steps.{Pos, every_printable, name_of, size_of, range_of, payload_of, from_step, to_step, size_step, data_step, zeros_step, end_step, record_of, step_of, fault_at}
+use Rattle.stream.specs.Steps.{Pos, every_printable, name_of, size_of, data_range_of, payload_of, from_step, to_step, size_step, data_step, zeros_step, end_step, record_of, step_of, fault_at}
 use Rattle.stream.specs.Records.{Content, from_name, to_name, image_size, data_at, zeros_at, header}
 use Rattle.stream.specs.Verdict.{start, verdict, reads, onward, taken, before, same}
 use Rattle.stream.specs.Wellformed.{GoodName, GoodRange, Good, rule_of, moved, WellFormed}
@@ -41,7 +41,7 @@ size_good rest m h =
     let is = ok_same n m b.1 in
     omega (arith, ltb-false (2 ^ 40) n b.0)
 
-range_good : (p : Pos) (rest : List ℕ) (q : ℕ × ℕ) → range_of p rest ≡ Ok q → GoodRange p q.0 q.1
+range_good : (p : Pos) (rest : List ℕ) (q : ℕ × ℕ) → data_range_of p rest ≡ Ok q → GoodRange p q.0 q.1
 range_good p rest q h =
     let o = le (field rest 1 8) in
     let n = le (field rest 9 8) in
@@ -56,7 +56,7 @@ range_good p rest q h =
 
 data_good : (p : Pos) (rest : List ℕ) (q : ℕ × ℕ) → payload_of p rest ≡ Ok q → (length (field rest 17 q.1) ≡ q.1) × GoodRange p q.0 q.1
 data_good p rest q h =
-    let a = then_back (range_of p rest) _ q h in
+    let a = then_back (data_range_of p rest) _ q h in
     let b = passes _ _ _ q a.2 in
     let is : a.0 ≡ q = ok_same a.0 q b.1 in
     let there = ltb-false (length rest) (17 + a.0.1) b.0 in
@@ -101,7 +101,7 @@ module _ (p : Pos) (rest : List ℕ) (x : Record × Pos) where
 
   zeros_read : (s : State) → late_rule p.state ≡ Ok s → zeros_step p rest s ≡ Ok x → Read p rest x
   zeros_read s u h =
-      let a = then_back (range_of p rest) _ x h in
+      let a = then_back (data_range_of p rest) _ x h in
       subst (Read p rest) (ok_same _ x a.2) (one (zeros_at a.0.0 a.0.1) s u (range_good p rest a.0 a.1) refl (λ _ _. refl))
 
   end_read : (s : State) → late_rule p.state ≡ Ok s → end_step p s ≡ Ok x → Read p rest x

@@ -2,19 +2,18 @@
 use Rattle.std.proofs.Common.{◌≡◌, ℕ, ◌+◌, ◌≤◌, false, leb, ltb, List, ◌++◌, length, take, drop, IfOk, Ok, Err, Result, sym, refl, ap, ◌∙◌, subst}
 use Rattle.fault.specs.Fault.{fault_by, in_entry, then}
 use Rattle.fault.specs.declared.kinds.Fault.{Fault}
-use Rattle.fault.specs.declared.kinds.Layer.TheVariants.{Join}
 use Rattle.std.proofs.lemmas.List.{take_at}
-use Rattle.std.proofs.lemmas.Bool.{ltb-false, leb-false, cond-false}
+use Rattle.std.proofs.lemmas.Bool.{ltb-false, cond-false}
 use Rattle.store.specs.Stores.{Images}
-use Rattle.stream.specs.Buffers.{filling, filled_by}
+use Rattle.stream.specs.Buffers.{filled_by}
 use Rattle.stream.specs.Difference.{Difference, joined, canonical}
 use Rattle.stream.proofs.Back.{passes, then_back, ok_same}
 use Rattle.stream.proofs.Sounds.{never}
 use Rattle.table.specs.Tables.{Table, end_of, row_at, unite_rows}
 use Rattle.shelf.specs.Entries.{unless_refused, are_there, entry, replaced}
-use Rattle.shelf.specs.Outcomes.{united_fill, join_fits, join_plan, join_stream, join_answer, join_work, settle_plan, settle_by, settle_outcome, settle_answer}
+use Rattle.shelf.specs.Outcomes.{united_fill, finds_room, join_fits, join_plan, join_stream, join_answer, join_work, settle_plan, settle_by, settle_outcome, settle_answer}
 use Rattle.shelf.specs.Steps.{MayUnite, MayLeave}
-use Rattle.shelf.proofs.Plans.{fault_by_back, settle_planned}
+use Rattle.shelf.proofs.Plans.{fault_by_back, found_there, settle_planned}
 
 -- what a join that was not refused tells
 module _ (t : Table) (bytes : List ℕ) (i : ℕ) (work : List ℕ) where
@@ -25,13 +24,10 @@ module _ (t : Table) (bytes : List ℕ) (i : ℕ) (work : List ℕ) where
   fits_done : (j d : Difference) → join_fits t bytes i work j ≡ Ok d → Fits d
   fits_done j d h =
       let a = passes _ _ _ d h in
-      let b = then_back (filling Join work (canonical j)) _ d a.1 in
+      let b = then_back (finds_room t bytes i work (length (canonical j))) _ d a.1 in
       let c = passes (ltb (length work) (length (canonical j))) _ _ b.0 b.1 in
-      let e = passes _ _ _ d b.2 in
-      let n : length (canonical j) ≡ b.0 = ok_same _ b.0 c.1 in
-      let is : j ≡ d = ok_same j d e.1 in
-      let shelf = ltb-false (length bytes) (united_fill t i b.0) e.0 in
-      subst Fits is (record { in_work = c.0; on_shelf = subst (λ m. united_fill t i m ≤ length bytes) (sym n) shelf })
+      let e = passes _ _ _ b.0 c.1 in
+      subst Fits (ok_same j d b.2) (record { in_work = c.0; on_shelf = ltb-false (length bytes) (united_fill t i (length (canonical j))) e.0 })
 
   join_done : (n : ℕ) → join_answer t bytes i work ≡ Ok n → MayUnite t bytes i work n
   unfolding join_plan
@@ -42,9 +38,8 @@ module _ (t : Table) (bytes : List ℕ) (i : ℕ) (work : List ℕ) where
       let d = b.0 in
       let long : length stream ≡ n = ok_same _ n a.2 in
       let is : canonical d ≡ stream = ok_same _ stream b.2 in
-      let c = passes _ _ _ d b.1 in
-      let e = passes _ _ _ d c.1 in
-      let f = then_back (entry t bytes i) _ d e.1 in
+      let c = found_there t bytes i 1 _ d b.1 in
+      let f = then_back (entry t bytes i) _ d c.2 in
       let g = then_back (entry t bytes (i + 1)) _ d f.2 in
       let fit = fits_done (joined f.0 g.0) d (fault_by_back (in_entry i) _ d g.2) in
       let count : length (canonical d) ≡ n = ap length is ∙ long in
@@ -52,8 +47,8 @@ module _ (t : Table) (bytes : List ℕ) (i : ℕ) (work : List ℕ) where
       ap (λ r. filled_by r work) a.1 ∙ cond-false (ltb (length work) (length stream)) _ _ (ap (λ xs. ltb (length work) (length xs)) (sym is) ∙ fit.in_work) in
       let front : take n (join_work t bytes i work) ≡ stream = ap (take n) wrote ∙ take_at stream (drop (length stream) work) n long in
       record {
-        two = leb-false (length t.rows) (i + 1) c.0;
-        reaches = ltb-false (length bytes) t.fill e.0;
+        two = c.0;
+        reaches = c.1;
         fits = subst (λ m. m ≤ length work) count (ltb-false (length work) (length (canonical d)) fit.in_work);
         room = subst (λ m. united_fill t i m ≤ length bytes) count fit.on_shelf;
         table = ap (unite_rows t i) (sym long) ∙ sym (ap (λ r. unless_refused r (λ xs. unite_rows t i (length xs)) t) a.1);

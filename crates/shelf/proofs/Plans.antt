@@ -1,19 +1,18 @@
 -- What the checks of a call that was not refused tell, and that what stands on a shelf reads as itself.
 use Rattle.std.proofs.Common.{◌≡◌, ℕ, ◌+◌, ◌<◌, ◌≤◌, false, not, ltb, leb, List, length, Ok, Err, Result, sym, ap, ◌∙◌, subst, arith}
-use Rattle.fault.specs.Fault.{fault_by, in_entry}
+use Rattle.fault.specs.Fault.{fault_by, in_entry, then}
 use Rattle.fault.specs.declared.kinds.Fault.{Fault}
-use Rattle.fault.specs.declared.kinds.Layer.TheVariants.{Join}
-use Rattle.std.proofs.lemmas.Bool.{ltb-false, leb-false, eqb-false}
+use Rattle.std.proofs.lemmas.Bool.{ltb-false, leb-false}
 use Rattle.listing.specs.Text.{listing}
-use Rattle.stream.specs.Buffers.{filling, filled, filled_by}
+use Rattle.stream.specs.Buffers.{filled, filled_by}
 use Rattle.stream.specs.Verdict.{same}
 use Rattle.stream.specs.Meaning.{ranges}
 use Rattle.stream.specs.Difference.{Difference, meaning, joined, canonical}
 use Rattle.stream.proofs.Back.{passes, then_back, ok_same}
 use Rattle.stream.proofs.Sounds.{never}
 use Rattle.table.specs.Tables.{Table, next_name, is_taken}
-use Rattle.shelf.specs.Entries.{entry}
-use Rattle.shelf.specs.Outcomes.{put_fits, put_plan, join_fits, join_plan, settle_plan, list_text, list_answer, list_buffer}
+use Rattle.shelf.specs.Entries.{are_there, entry}
+use Rattle.shelf.specs.Outcomes.{put_fits, put_plan, finds_room, join_fits, join_plan, settle_plan, list_text, list_answer, list_buffer}
 use Rattle.shelf.specs.Steps.{HasRoom}
 
 pub fault_by_back : {A : Type 0} (g : Fault → Fault) (r : Result A Fault) (x : A) → fault_by g r ≡ Ok x → r ≡ Ok x
@@ -47,12 +46,20 @@ put_planned t bytes stream d h =
       room = subst (HasRoom t bytes) c.1 c.0;
     }
 
+-- what a call that found its entries there knows, and that what followed succeeded
+pub found_there : {A : Type 0} (t : Table) (bytes : List ℕ) (i more : ℕ) (next : Result A Fault) (x : A) → then (are_there t bytes i more) (λ _. next) ≡ Ok x
+    → (i + more < length t.rows) × (t.fill ≤ length bytes) × (next ≡ Ok x)
+found_there t bytes i more next x h =
+    let a = then_back (are_there t bytes i more) _ x h in
+    let b = passes (leb (length t.rows) (i + more)) _ _ a.0 a.1 in
+    let c = passes (ltb (length bytes) t.fill) _ _ a.0 b.1 in
+    (leb-false (length t.rows) (i + more) b.0, ltb-false (length bytes) t.fill c.0, a.2)
+
 join_fitted : (t : Table) (bytes : List ℕ) (i : ℕ) (work : List ℕ) (d j : Difference) → join_fits t bytes i work d ≡ Ok j → (length (ranges d.cells) ≤ 512) × (j ≡ d)
 join_fitted t bytes i work d j h =
     let a = passes _ _ _ j h in
-    let b = then_back (filling Join work (canonical d)) _ j a.1 in
-    let c = passes _ _ _ j b.2 in
-    (ltb-false 512 (length (ranges d.cells)) a.0, sym (ok_same d j c.1))
+    let b = then_back (finds_room t bytes i work (length (canonical d))) _ j a.1 in
+    (ltb-false 512 (length (ranges d.cells)) a.0, sym (ok_same d j b.2))
 
 -- entries that join accepts
 pub record JoinPlanned (t : Table) (bytes : List ℕ) (i : ℕ) (j : Difference) : Type 0 where
@@ -68,14 +75,13 @@ pub record JoinPlanned (t : Table) (bytes : List ℕ) (i : ℕ) (j : Difference)
 pub join_planned : (t : Table) (bytes : List ℕ) (i : ℕ) (work : List ℕ) (j : Difference) → join_plan t bytes i work ≡ Ok j → JoinPlanned t bytes i j
 unfolding join_plan
 join_planned t bytes i work j h =
-    let a = passes _ _ _ j h in
-    let b = passes _ _ _ j a.1 in
-    let c = then_back (entry t bytes i) _ j b.1 in
+    let a = found_there t bytes i 1 _ j h in
+    let c = then_back (entry t bytes i) _ j a.2 in
     let d = then_back (entry t bytes (i + 1)) _ j c.2 in
     let e = join_fitted t bytes i work (joined c.0 d.0) j (fault_by_back (in_entry i) _ j d.2) in
     record {
-      there = leb-false (length t.rows) (i + 1) a.0;
-      reaches = ltb-false (length bytes) t.fill b.0;
+      there = a.0;
+      reaches = a.1;
       earlier = c.0;
       later = d.0;
       here = c.1;
@@ -93,10 +99,8 @@ pub record SettlePlanned (t : Table) (bytes : List ℕ) (d : Difference) : Type 
 pub settle_planned : (t : Table) (bytes : List ℕ) (d : Difference) → settle_plan t bytes ≡ Ok d → SettlePlanned t bytes d
 unfolding settle_plan
 settle_planned t bytes d h =
-    let a = passes _ _ _ d h in
-    let b = passes _ _ _ d a.1 in
-    let none = eqb-false (length t.rows) 0 a.0 in
-    record { there = omega arith; reaches = ltb-false (length bytes) t.fill b.0; here = b.1 }
+    let a = found_there t bytes 0 0 _ d h in
+    record { there = a.0; reaches = a.1; here = a.2 }
 
 -- an entry that list shows
 pub record ListPlanned (t : Table) (bytes : List ℕ) (i : ℕ) (text : List ℕ) (n : ℕ) : Type 0 where
@@ -113,14 +117,13 @@ unfolding list_text
 list_planned t bytes i text n h =
     let a = then_back (list_text t bytes i) _ n h in
     let x = a.0 in
-    let b = passes _ _ _ x a.1 in
-    let c = passes _ _ _ x b.1 in
-    let d = then_back (entry t bytes i) _ x c.1 in
+    let b = found_there t bytes i 0 _ x a.1 in
+    let d = then_back (entry t bytes i) _ x b.2 in
     let is : listing (ranges d.0.cells) ≡ x = ok_same _ x d.2 in
     let f = passes _ _ _ n (fault_by_back _ _ n a.2) in
     record {
-      there = leb-false (length t.rows) i b.0;
-      reaches = ltb-false (length bytes) t.fill c.0;
+      there = omega arith;
+      reaches = b.1;
       shown = d.0;
       here = d.1;
       told = sym (ok_same _ n f.1) ∙ ap length (sym is);

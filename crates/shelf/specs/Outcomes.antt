@@ -1,8 +1,9 @@
 -- The calls of a shelf: what each answers, and what table, bytes, image and buffer then hold. The checks stand in their order; a refusal alters nothing,
--- but for the image where the store stops a settle. Rests on entries, on buffers, on the list's text and on what applying records does.
+-- but for the image where the store stops a settle. Rests on faults, on the table and its entries, on what a stream means, on which names a writer takes,
+-- on buffers, on the list's text, on the images of a store and on what applying records does.
 use Rattle.std.specs.Prelude.{ℕ, ◌+◌, not, ◌||◌, List, [], length, Ok, Err, Result, ◌==◌, nat_le, nat_lt}
 use Rattle.fault.specs.Fault.{fault, fault_by, at_layer, in_entry, then}
-use Rattle.fault.specs.declared.kinds.Cause.TheVariants.{BadName, NamesDiffer, TooManyRanges, ShortBuffer, ShelfFull, NoEntry, NameTaken, Damaged}
+use Rattle.fault.specs.declared.kinds.Cause.TheVariants.{BadName, NamesDiffer, TooManyRanges, ShortBuffer, ShelfFull, NameTaken, Damaged}
 use Rattle.fault.specs.declared.kinds.Fault.{Fault}
 use Rattle.fault.specs.declared.kinds.Layer.TheVariants.{Stream, Join, Shelf}
 use Rattle.stream.specs.Buffers.{filling, filled_by}
@@ -14,7 +15,7 @@ use Rattle.listing.specs.Text.{listing}
 use Rattle.store.specs.Stores.{Images, Outcome}
 use Rattle.apply.specs.Applies.{apply_records}
 use Rattle.table.specs.Tables.{Table, empty_table, end_of, row_at, next_name, is_taken, fill_after, add_row, unite_rows, drop_row}
-use Rattle.shelf.specs.Entries.{refuse_if, unless_refused, is_short, entry, replaced}
+use Rattle.shelf.specs.Entries.{refuse_if, unless_refused, is_short, are_there, entry, replaced}
 
 -- make: an empty shelf beside a base image whose snapshot has this name; the empty name stands for the state before the first snapshot
 abbrev pub make_answer : List ℕ → Result Table Fault
@@ -48,21 +49,24 @@ put_bytes t bytes stream = unless_refused (put_plan t bytes stream) (λ d. repla
 abbrev pub united_fill : Table → ℕ → ℕ → ℕ
 united_fill t i n = fill_after t.fill (row_at t i).place (end_of (row_at t (i + 1))) n
 
+-- a joined stream of n bytes for which there is room in the work buffer and, in the place of entries i and i + 1, on the shelf
+abbrev pub finds_room : Table → List ℕ → ℕ → List ℕ → ℕ → Result ℕ Fault
+finds_room t bytes i work n =
+    refuse_if (nat_lt (length work) n) (at_layer Join (fault ShortBuffer n))
+    (refuse_if (nat_lt (length bytes) (united_fill t i n)) (at_layer Shelf (fault ShortBuffer (united_fill t i n))) (Ok n))
+
 -- join: the difference of entries i and i + 1 joined, if it has at most 512 ranges and its stream fits into the work buffer and onto the shelf
 abbrev pub join_fits : Table → List ℕ → ℕ → List ℕ → Difference → Result Difference Fault
 join_fits t bytes i work d =
     refuse_if (nat_lt 512 (length (ranges d.cells))) (fault TooManyRanges 0)
-    (then (filling Join work (canonical d)) (λ n.
-    refuse_if (nat_lt (length bytes) (united_fill t i n)) (at_layer Shelf (fault ShortBuffer (united_fill t i n)))
-    (Ok d)))
+    (then (finds_room t bytes i work (length (canonical d))) (λ _. Ok d))
 
 unfoldable pub join_plan : Table → List ℕ → ℕ → List ℕ → Result Difference Fault
 join_plan t bytes i work =
-    refuse_if (nat_le (length t.rows) (i + 1)) (in_entry i (fault NoEntry i))
-    (refuse_if (is_short t bytes) (in_entry i (fault Damaged 0))
-    (then (entry t bytes i) (λ d.
+    then (are_there t bytes i 1) (λ _.
+    then (entry t bytes i) (λ d.
     then (entry t bytes (i + 1)) (λ e.
-    fault_by (in_entry i) (join_fits t bytes i work (joined d e))))))
+    fault_by (in_entry i) (join_fits t bytes i work (joined d e)))))
 
 abbrev pub join_stream : Table → List ℕ → ℕ → List ℕ → Result (List ℕ) Fault
 join_stream t bytes i work = then (join_plan t bytes i work) (λ d. Ok (canonical d))
@@ -84,7 +88,7 @@ join_bytes t bytes i work =
 
 -- settle: entry 0, if it may be applied
 unfoldable pub settle_plan : Table → List ℕ → Result Difference Fault
-settle_plan t bytes = refuse_if (length t.rows == 0) (fault NoEntry 0) (refuse_if (is_short t bytes) (fault Damaged 0) (entry t bytes 0))
+settle_plan t bytes = then (are_there t bytes 0 0) (λ _. entry t bytes 0)
 
 -- the difference is applied to the image in the store: its canonical records in turn; what was refused before leaves the image alone
 abbrev pub settle_by : Images → List ℕ → Result Difference Fault → Outcome
@@ -110,10 +114,7 @@ settle_bytes holds t bytes image =
 
 -- list: the text of the ranges of entry i
 unfoldable pub list_text : Table → List ℕ → ℕ → Result (List ℕ) Fault
-list_text t bytes i =
-    refuse_if (nat_le (length t.rows) i) (in_entry i (fault NoEntry i))
-    (refuse_if (is_short t bytes) (in_entry i (fault Damaged 0))
-    (then (entry t bytes i) (λ d. Ok (listing (ranges d.cells)))))
+list_text t bytes i = then (are_there t bytes i 0) (λ _. then (entry t bytes i) (λ d. Ok (listing (ranges d.cells))))
 
 abbrev pub list_answer : Table → List ℕ → ℕ → List ℕ → Result ℕ Fault
 list_answer t bytes i text = then (list_text t bytes i) (λ written. fault_by (in_entry i) (filling Stream text written))

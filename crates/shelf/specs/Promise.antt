@@ -1,5 +1,5 @@
--- The promise: nobody who puts, joins, settles or lists can alter what the base image comes back to. Rests on series of calls, on the ledger, and on what
--- stretches come to.
+-- The promise: nobody who puts, joins, settles or lists can alter what the base image comes back to. Rests on series of calls, on the ledger, on what
+-- stretches come to, on entries and their faults, on what reading a stream promises, on the list's text, and on the images of a store.
 use Rattle.std.specs.Prelude.{◌≡◌, ℕ, ◌<◌, ◌≤◌, List, [], ◌∷◌, ◌++◌, map, length, take, drop, Ok, Err, slice_index_or}
 use Rattle.fault.specs.Fault.{fault}
 use Rattle.fault.specs.declared.kinds.Cause.TheVariants.{NoEntry}

@@ -1,4 +1,5 @@
--- What a refused call leaves: everything as it was, but for the image where the store stopped a settle. Rests on series of calls.
+-- What a refused call leaves: everything as it was, but for the image where the store stopped a settle. Rests on series of calls,
+-- on faults and on the images of a store.
 use Rattle.std.specs.Prelude.{◌≡◌, ℕ, List, [], Err, ◌≢◌}
 use Rattle.fault.specs.declared.kinds.Cause.TheVariants.{NoRoom}
 use Rattle.fault.specs.declared.kinds.Fault.{Fault}

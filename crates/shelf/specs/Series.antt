@@ -1,5 +1,5 @@
--- Every series of calls on one shelf, its bytes and the base image: what each call answers, and what is there in the end. Rests on the outcomes of the
--- calls.
+-- Every series of calls on one shelf, its bytes and the base image: what each call answers, and what is there in the end. Rests on the calls and their
+-- outcomes, on what the ledger is fed, on the table, on faults and on the images of a store.
 use Rattle.std.specs.Prelude.{ℕ, List, [], ◌∷◌, ◌++◌, take, drop, is_err, Ok, Err, Result}
 use Rattle.fault.specs.declared.kinds.Fault.{Fault}
 use Rattle.store.specs.Stores.{Images}

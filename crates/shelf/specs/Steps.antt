@@ -1,15 +1,11 @@
 -- What the steps of a call promise each other: a stream that reads as itself, room for a new entry, and that a call may alter the shelf. Rests on the
--- outcomes of the calls and on streams that were read.
-use Rattle.std.specs.Prelude.{◌≡◌, ℕ, ◌+◌, ◌<◌, ◌≤◌, List, length, take, Ok, Result, nat_lt}
-use Rattle.fault.specs.Fault.{fault, at_layer}
-use Rattle.fault.specs.declared.kinds.Cause.TheVariants.{ShortBuffer}
-use Rattle.fault.specs.declared.kinds.Fault.{Fault}
-use Rattle.fault.specs.declared.kinds.Layer.TheVariants.{Join, Shelf}
+-- outcomes of the calls, on the table and its entries, and on streams that were read.
+use Rattle.std.specs.Prelude.{◌≡◌, ℕ, ◌+◌, ◌<◌, ◌≤◌, List, length, take, Ok}
 use Rattle.join.specs.Sources.{source_difference}
 use Rattle.join.specs.declared.sources.Source.{Source}
 use Rattle.stream.specs.Difference.{Difference, meaning, canonical}
 use Rattle.table.specs.Tables.{Table, end_of, row_at, unite_rows}
-use Rattle.shelf.specs.Entries.{refuse_if, replaced}
+use Rattle.shelf.specs.Entries.{replaced}
 use Rattle.shelf.specs.Outcomes.{united_fill, join_work, join_table, join_bytes}
 
 -- a source whose stream is the canonical one of its difference
@@ -21,12 +17,6 @@ pub record Own (s : Source) : Type 0 where
 pub record HasRoom (t : Table) (bytes : List ℕ) (d : Difference) : Type 0 where
   pub few : length t.rows < 64
   pub room : t.fill + length (canonical d) ≤ length bytes
-
--- a joined stream of n bytes for which there is room in the work buffer and, in the place of entries i and i + 1, on the shelf
-abbrev pub finds_room : Table → List ℕ → ℕ → List ℕ → ℕ → Result ℕ Fault
-finds_room t bytes i work n =
-    refuse_if (nat_lt (length work) n) (at_layer Join (fault ShortBuffer n))
-    (refuse_if (nat_lt (length bytes) (united_fill t i n)) (at_layer Shelf (fault ShortBuffer (united_fill t i n))) (Ok n))
 
 -- entries i and i + 1 may become one, by the n bytes at the front of the work buffer
 pub record MayUnite (t : Table) (bytes : List ℕ) (i : ℕ) (work : List ℕ) (n : ℕ) : Type 0 where

@@ -1,5 +1,5 @@
--- What a stretch of streams comes to: the join of its differences and the overlay of their ranges, oldest first. Rests on the ledger's stretches and on
--- what a stream means.
+-- What a stretch of streams comes to: the join of its differences and the overlay of their ranges, oldest first. Rests on the ledger's stretches, on
+-- what a stream means, and on how ranges are overlaid.
 use Rattle.std.specs.Prelude.{ℕ, List, [], ◌∷◌, map, length, Ok, Err, Result}
 use Rattle.fault.specs.declared.kinds.Fault.{Fault}
 use Rattle.overlay.specs.declared.runs.Run.{Run}
@@ -39,7 +39,8 @@ stretch_join s = joined_all (difference_in s.oldest) (differences_in s.later)
 abbrev pub stretch_stream : Stretch → List ℕ
 stretch_stream s = canonical (stretch_join s)
 
--- the overlay of earlier ranges of a size by later ranges of a size
+-- the overlay of earlier ranges of a size by later ranges of a size (the law of joins about ranges, RangesOverlaid in join/specs/Laws, is over this same
+-- expression, written out there)
 abbrev pub overlay_ranges : List (Run RangeMark) → ℕ → List (Run RangeMark) → ℕ → List (Run RangeMark)
 overlay_ranges earlier m later n =
     runs_from range_moves range_alike 0 (overlaid range_filler (painted range_moves earlier m) (painted range_moves later n))

@@ -4,8 +4,7 @@ ghost use Rattle.std.specs.Prelude.{◌≡◌, ◌+◌, ◌^◌, ◌<◌, ◌≤
 ghost use Rattle.fault.specs.Fault.{then};
 ghost use Rattle.join.specs.Joins.{pair_join, pair_meant};
 ghost use Rattle.shelf.specs.Entries.{are_there, entry};
-ghost use Rattle.shelf.specs.Outcomes.{united_fill, join_fits};
-ghost use Rattle.shelf.specs.Steps.{finds_room};
+ghost use Rattle.shelf.specs.Outcomes.{united_fill, finds_room, join_fits};
 ghost use Rattle.stream.specs.Buffers.{filled_by};
 ghost use Rattle.stream.specs.Difference.{joined, canonical};
 ghost use Rattle.stream.specs.Verdict.{checked};

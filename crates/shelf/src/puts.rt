@@ -14,7 +14,7 @@ use fault::{Cause, Fault, Layer, Located};
 use join::{Source, read_source};
 use overlay::{PayloadMark, Run, Side};
 use stream::{MOST_RECORDS, Parts};
-use table::EntryTable;
+use table::{EntryTable, MOST_ENTRIES};
 
 impl Contents<'_> {
     // Refuses a source that may not be added: it has to lead on to a new name, and to find room in the
@@ -26,7 +26,7 @@ impl Contents<'_> {
         if !self.table.next_name().is(source.from) {
             return Err(Fault::new(Cause::NamesDiffer, 0).at_layer(Layer::Shelf));
         }
-        if self.table.count() >= 64 {
+        if self.table.count() >= MOST_ENTRIES {
             return Err(Fault::new(Cause::ShelfFull, 0));
         }
         if self.table.is_taken(source.to) {

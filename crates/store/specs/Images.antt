@@ -1,4 +1,5 @@
--- What the calls of a store make of an image, the list of its bytes. Rests on nothing.
+-- What the calls of a store make of an image, the list of its bytes. Rests on nothing: streams have `field` and `patched` of their own (stream/specs/Bytes),
+-- like `part` and `overwritten` here, since the layers of streams and of stores know nothing of each other.
 use Rattle.std.specs.Prelude.{ℕ, ◌+◌, ◌-◌, List, ◌++◌, length, take, drop, replicate}
 
 -- the bytes of an image from an offset on, as many as count says

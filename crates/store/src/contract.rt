@@ -3,8 +3,9 @@ ghost use Rattle.store.specs.Stores.{Images, Laws, read_outcome, write_outcome, 
 
 use fault::Fault;
 
-// A store, by its image's bytes now and the set of images that it can hold. No call alters the set: each says so, and so does each
-// function that calls one, since it relates a store after a call to itself before it, which no invariant does.
+// A store, by its image's bytes now and the set of images that it can hold. No call alters the set: each
+// says so, and so does each function that calls one, since that relates a store after the call to itself
+// before it, and no invariant does.
 pub trait Store {
     ghost image: { Self → List ℕ };
 

@@ -36,28 +36,28 @@ fn regrow<S: Store>(image: &mut S, size: u64) -> u64
     u64::from(image.resize(0).is_ok()) + u64::from(image.resize(size).is_ok())
 }
 
-// Writes, and then zeroes and regrows the image if asked: the two flags are C's numbers, 0 for no.
+// Writes, and then zeroes and regrows the image if asked.
 fn work<S: Store>(
     image: &mut S,
     size: u64,
     bytes: &[u8],
     offsets: &[u64],
-    zero: u64,
-    grow: u64,
+    zero: bool,
+    grow: bool,
 ) -> u64
     ensures { result ≤ length offsets.now + 3 }
 {
     let mut accepted = write_all(image, bytes, offsets);
-    if zero != 0 {
+    if zero {
         accepted += zero_all(image);
     }
-    if grow != 0 {
+    if grow {
         accepted += regrow(image, size);
     }
     accepted
 }
 
-// Over an image in one piece of memory.
+// Over an image in one piece of memory. (The two flags are C's numbers, 0 for no.)
 #[unsafe(no_mangle)]
 pub extern "C" fn bench_flat(
     memory: &mut [u8],
@@ -70,7 +70,7 @@ pub extern "C" fn bench_flat(
     ensures { result ≤ length offsets.now + 3 }
 {
     let mut image = FlatImage::open(memory, size);
-    work(&mut image, size, bytes, offsets, zero, grow)
+    work(&mut image, size, bytes, offsets, zero != 0, grow != 0)
 }
 
 // Over an image in pages, grown to its size first.
@@ -90,5 +90,5 @@ pub extern "C" fn bench_paged(
     if image.resize(size).is_err() {
         return 0;
     }
-    work(&mut image, size, bytes, offsets, zero, grow)
+    work(&mut image, size, bytes, offsets, zero != 0, grow != 0)
 }

@@ -1,10 +1,11 @@
+-- What reading accepts was written: back from an answer of reading to well-formed records and their bytes.
 use Rattle.std.proofs.Common.{◌≡◌, ℕ, zero, suc, ◌+◌, ◌-◌, ◌^◌, ◌<◌, ◌≤◌, Bool, true, false, cond, eqb, ltb, List, [], ◌∷◌, ◌++◌, length, take, drop, Ok, Err, Result, sym, refl, ap, ◌∙◌, subst, ap₂, inl, inr, append_assoc, arith, length-append}
 use Rattle.std.proofs.ByRecursion.{All-take, All-drop}
 use Rattle.std.proofs.lemmas.List.{take-append-drop, length-take-le, length-drop, nil_from_length}
 use Rattle.std.proofs.lemmas.Bool.{ltb-false, eqb-true, eqb-false, cases_Bool, and_parts, cond-true, cond-false}
 use Rattle.stream.specs.Bytes.{le, le_bytes, field}
 use Rattle.stream.specs.Rule.{State, Meta, Data, late_rule}
-use Rattle.stream.specs.Steps.{Pos, every_printable, name_by, name_of, size_by, range_by, range_of, payload_of, record_of, step_of}
+use Rattle.stream.specs.Steps.{Pos, every_printable, name_by, name_of, size_by, range_by, data_range_of, payload_of, record_of, step_of}
 use Rattle.stream.specs.Records.{Content, from_name, to_name, image_size, data_at, zeros_at, encoded, encodings, header}
 use Rattle.stream.specs.Verdict.{start, reads, onward, before, same}
 use Rattle.stream.specs.Wellformed.{GoodName, GoodRange, Good, rule_of, moved, WellFormed, Bytes, AcceptedIsStream}
@@ -107,7 +108,7 @@ name_view t bs m h e =
       (let g = a.1 in omega arith, let g = a.2 in omega arith, a.3),
     )
 
-range_view : (p : Pos) (t : ℕ) (bs : List ℕ) (q : ℕ × ℕ) → Bytes bs → range_of p (t ∷ bs) ≡ Ok q
+range_view : (p : Pos) (t : ℕ) (bs : List ℕ) (q : ℕ × ℕ) → Bytes bs → data_range_of p (t ∷ bs) ≡ Ok q
     → (bs ≡ (le_bytes 8 q.0 ++ le_bytes 8 q.1) ++ drop 8 (drop 8 bs)) × GoodRange p q.0 q.1
 range_view p t bs q h e =
     let o = le (take 8 bs) in

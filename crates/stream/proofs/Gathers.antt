@@ -1,5 +1,7 @@
+-- What the code notes of a record is what the record says, and there is room for its run.
 use Rattle.std.proofs.Common.{◌≡◌, ℕ, ◌+◌, ◌≤◌, List, [], ◌∷◌, ◌++◌, length, take, drop, Ok, Err, Result, sym, refl, ap, ◌∙◌, ap₂, arith}
-use Rattle.std.proofs.lemmas.List.{length-take-le, length-drop, take_more_set}
+use Rattle.std.specs.Prelude.{slice_set}
+use Rattle.std.proofs.lemmas.List.{length-take-le, length-drop, drop-drop, drop-set-lt, take_more_set}
 use Rattle.stream.specs.Bytes.{field}
 use Rattle.stream.specs.Steps.{Pos, span, Lies}
 use Rattle.stream.specs.Records.{Content, from_name, to_name, image_size, data_at, zeros_at, encoded}
@@ -70,3 +72,18 @@ has_room p q left n (Size m) s h e f = tt
 has_room p q left n (Write o m a) s h e f = let y = h.4 in omega arith
 has_room p q left n (Zero o m) s h e f = let y = h.2 in omega arith
 has_room p q left n End s h e f = tt
+
+next_behind : (out old : List (Run PayloadMark)) (k : ℕ) (run : Run PayloadMark) → drop k out ≡ drop k old → drop (k + 1) (slice_set out k run) ≡ drop (k + 1) old
+next_behind out old k run h =
+    let on : (xs : List (Run PayloadMark)) → drop 1 (drop k xs) ≡ drop (k + 1) xs = λ xs. drop-drop 1 k xs ∙ ap (λ m. drop m xs) (omega arith) in
+    drop-set-lt (k + 1) out k run (omega arith) ∙ sym (on out) ∙ ap (drop 1) h ∙ on old
+
+-- what lies behind the runs stays
+pub behind : (side : Side) (r : Record) (s : Summary) (out old : List (Run PayloadMark)) → drop s.count out ≡ drop s.count old
+    → drop (noted_by s r).count (runs_by side out s.count r) ≡ drop (noted_by s r).count old
+behind side (From a) s out old h = h
+behind side (To a) s out old h = h
+behind side (Size m) s out old h = h
+behind side (Write o m a) s out old h = next_behind out old s.count (payload_run side o m a) h
+behind side (Zero o m) s out old h = next_behind out old s.count (zero_run o m) h
+behind side End s out old h = h

@@ -3,7 +3,7 @@ use Rattle.std.proofs.Common.{◌≡◌, ℕ, ◌+◌, ◌<◌, ◌≤◌, cond,
 use Rattle.std.proofs.lemmas.Bool.{ltb-false, cases_Bool}
 use Rattle.stream.specs.Bytes.{le, field}
 use Rattle.stream.specs.Rule.{State, from_rule, to_rule, size_rule, late_rule}
-use Rattle.stream.specs.Steps.{Pos, span, name_by, name_of, size_of, range_by, range_of, payload_of, from_step, to_step, size_step, data_step, zeros_step, end_step, record_of, step_of, Lies}
+use Rattle.stream.specs.Steps.{Pos, span, name_by, name_of, size_of, range_by, data_range_of, payload_of, from_step, to_step, size_step, data_step, zeros_step, end_step, record_of, step_of, Lies}
 use Rattle.stream.specs.declared.kinds.Record.{Record}
 use Rattle.stream.specs.declared.kinds.Record.TheVariants.{From, To, Size, Write, Zero, End}
 use Rattle.fault.specs.Fault.{then}
@@ -21,7 +21,7 @@ range_fits p rest o n q h = (range_back p rest o n q h).1.0
 
 payload_fits : (p : Pos) (rest : List ℕ) (q : ℕ × ℕ) → payload_of p rest ≡ Ok q → (17 + q.1 ≤ length rest) × (p.count < 512)
 payload_fits p rest q h =
-    let u = then_back (range_of p rest) (λ q. cond (ltb (length rest) (17 + q.1)) (Err causes.Cut) (Ok q)) q h in
+    let u = then_back (data_range_of p rest) (λ q. cond (ltb (length rest) (17 + q.1)) (Err causes.Cut) (Ok q)) q h in
     let v = passes _ _ _ q u.2 in
     let l = ltb-false (length rest) (17 + u.0.1) v.0 in
     let e = ap (λ x. x.1) (ok_same u.0 q v.1) in
@@ -63,7 +63,7 @@ module _ (p : Pos) (rest : List ℕ) where
   zeros_lies : (s : State) (x : Record × Pos) → zeros_step p rest s ≡ Ok x → LiesSo x
   zeros_lies s x e =
       let G : ℕ × ℕ → Result (Record × Pos) Cause = λ q. Ok (Zero q.0 q.1, record { place = p.place + 17; state = s; size = p.size; end = q.0 + q.1; count = p.count + 1 }) in
-      let b = then_back (range_of p rest) G x e in
+      let b = then_back (data_range_of p rest) G x e in
       lies_back _ x b.2 (refl, refl, range_fits p rest (le (field rest 1 8)) (le (field rest 9 8)) b.0 b.1)
 
   end_lies : (s : State) (x : Record × Pos) → end_step p s ≡ Ok x → LiesSo x

@@ -16,9 +16,8 @@ use Rattle.overlay.specs.Runs as runs
 use Rattle.overlay.proofs.Painted.{over_none, run_inside, run_before, run_after}
 use Rattle.overlay.proofs.Bridge.{counted_same}
 use Rattle.stream.specs.Bytes.{field}
-use Rattle.stream.specs.Records.{Content, from_name, to_name, image_size, data_at, zeros_at, encoded, encodings, encoded_stream, header}
+use Rattle.stream.specs.Records.{Content, from_name, to_name, image_size, data_at, zeros_at, encoded, encodings, encoded_stream, header, size_in}
 use Rattle.stream.specs.Gathered.{Gathered, gathered, none, zero_run, payload_run}
-use Rattle.stream.specs.Places.{size_in}
 use Rattle.stream.specs.Meaning.{Cell, zeroed, written, within, laid, cells}
 use Rattle.stream.specs.Parts.{cell_of, parts_cells, PayloadsIn, StandsFor}
 use Rattle.stream.specs.Sound.{GoodMeta, Rising, Sound}

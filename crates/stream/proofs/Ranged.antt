@@ -1,5 +1,5 @@
 -- The ranges that the code finds are those of the difference.
-use Rattle.std.proofs.Common.{◌≡◌, ℕ, List, [], ◌∷◌, map, take, Some, None, Ok, Err, Option, Result, sym, refl, ap, ◌∙◌, subst, ap₂}
+use Rattle.std.proofs.Common.{◌≡◌, ℕ, Bool, true, false, cond, List, [], ◌∷◌, map, take, Some, None, Ok, Err, Option, Result, sym, refl, ap, ◌∙◌, subst, ap₂}
 use mathlib.Core.List.{map-map}
 use Rattle.std.specs.Option.{option_map}
 use Rattle.overlay.specs.declared.runs.Run.{Run}
@@ -7,7 +7,7 @@ use Rattle.overlay.specs.declared.ranges.RangeMark.{RangeMark}
 use Rattle.overlay.specs.declared.payloads.PayloadMark.{PayloadMark}
 use Rattle.overlay.specs.declared.payloads.PayloadMark.TheVariants.{Zeroed, Written}
 use Rattle.overlay.specs.declared.payloads.Side.{Side}
-use Rattle.overlay.specs.Marks.{payload_moves, range_moves, range_alike, range_filler}
+use Rattle.overlay.specs.Marks.{payload_moves, range_moves, range_alike, range_filler, range_of}
 use Rattle.overlay.specs.Runs.{painted, remarked, runs_from, Answers}
 use Rattle.overlay.specs.States.{overlaid}
 use Rattle.overlay.proofs.Bridge.{painted_length, painted_nothing}
@@ -16,13 +16,18 @@ use Rattle.overlay.proofs.Remarked.{painted_remarked}
 use Rattle.fault.specs.declared.kinds.Fault.{Fault}
 use Rattle.stream.specs.Records.{Content}
 use Rattle.stream.specs.Gathered.{Gathered, gathered_from}
-use Rattle.stream.specs.Meaning.{mark_of, ranges}
-use Rattle.stream.specs.Parts.{cell_of, range_of, parts_cells, part_ranges}
+use Rattle.stream.specs.Meaning.{Cell, mark_of, ranges}
+use Rattle.stream.specs.Parts.{cell_of, parts_cells, part_ranges}
 use Rattle.stream.proofs.Sounds.{never}
 
 pub map_same : {A B : Type 0} (f g : A → B) → ((x : A) → f x ≡ g x) → (xs : List A) → map f xs ≡ map g xs
 map_same f g h [] = refl
 map_same f g h (x ∷ xs) = ap₂ ◌∷◌ (h x) (map_same f g h xs)
+
+-- the kind of a state that is there only on a condition
+pub kind_cond : (t : Bool) (s : Cell) → option_map mark_of (cond t (Some s) None) ≡ cond t (Some (mark_of s)) None
+kind_cond true s = refl
+kind_cond false s = refl
 
 -- the kind of a mark is the kind of the state that it stands for, and moves on with it
 pub kinds_agree : (earlier later : List ℕ) (s : Option PayloadMark) → option_map mark_of (option_map (cell_of earlier later) s) ≡ option_map range_of s

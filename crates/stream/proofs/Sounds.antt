@@ -1,11 +1,11 @@
+-- A list of records is well formed, record by record, exactly if it is sound in one look; so a stream is accepted exactly if it is the stream of a sound list.
 use Rattle.std.proofs.Common.{◌≡◌, ℕ, ◌+◌, ◌≤◌, Bool, true, false, List, [], ◌∷◌, ◌++◌, length, Ok, Err, Result, sym, refl, ap, ◌∙◌, subst, arith}
 use Rattle.std.specs.List.{AllByRecursion}
 use Rattle.stream.specs.Rule.{State, Data, meta, from_rule, to_rule, size_rule, late_rule}
 use Rattle.stream.specs.Steps.{Pos}
-use Rattle.stream.specs.Records.{Content, from_name, to_name, image_size, data_at, zeros_at}
+use Rattle.stream.specs.Records.{Content, from_name, to_name, image_size, data_at, zeros_at, size_in, data_of}
 use Rattle.stream.specs.Verdict.{start, verdict, checked}
 use Rattle.stream.specs.Wellformed.{WellFormed, moved, Bytes}
-use Rattle.stream.specs.Places.{size_in}
 use Rattle.stream.specs.Sound.{GoodMeta, froms, tos, sizes, Rising, SoundExactly, AcceptedExactly, Exact}
 use Rattle.fault.specs.declared.kinds.Fault.{Fault}
 use Rattle.stream.proofs.Forth.{reads_back}
@@ -184,6 +184,23 @@ meta_well (image_size m ∷ ms) ds p f t false e n l g a b c r k =
     (meta f t true, ap size_rule e, g.0, meta_well ms ds (moved p (image_size m) (meta f t true)) f t true refl n l g.1 a b (omega arith) r k)
 meta_well (data_at o bs ∷ ms) ds p f t z e n l g a b c r k = absurd g.0
 meta_well (zeros_at o m ∷ ms) ds p f t z e n l g a b c r k = absurd g.0
+
+-- the data records of a sound list: behind the metadata, which are none, each record is one
+pub data_only : (ds : List Content) (size end : ℕ) → Rising size end ds → data_of ds ≡ ds
+data_only [] size end r = refl
+data_only (from_name n ∷ ds) size end r = absurd r
+data_only (to_name n ∷ ds) size end r = absurd r
+data_only (image_size n ∷ ds) size end r = absurd r
+data_only (data_at o bs ∷ ds) size end r = ap (λ v. data_at o bs ∷ v) (data_only ds size (o + length bs) r.3)
+data_only (zeros_at o n ∷ ds) size end r = ap (λ v. zeros_at o n ∷ v) (data_only ds size (o + n) r.3)
+
+pub data_behind : (ms ds : List Content) → AllByRecursion GoodMeta ms → data_of (ms ++ ds) ≡ data_of ds
+data_behind [] ds g = refl
+data_behind (from_name n ∷ ms) ds g = data_behind ms ds g.1
+data_behind (to_name n ∷ ms) ds g = data_behind ms ds g.1
+data_behind (image_size n ∷ ms) ds g = data_behind ms ds g.1
+data_behind (data_at o bs ∷ ms) ds g = absurd g.0
+data_behind (zeros_at o n ∷ ms) ds g = absurd g.0
 
 pub sound_exactly : SoundExactly
 sound_exactly cs = (

@@ -5,11 +5,11 @@ use Rattle.overlay.specs.declared.runs.Run.{Run}
 use Rattle.overlay.specs.declared.payloads.PayloadMark.{PayloadMark}
 use Rattle.overlay.specs.declared.payloads.Side.{Side}
 use Rattle.fault.specs.declared.kinds.Fault.{Fault}
-use Rattle.stream.specs.Records.{Content, from_name, to_name, image_size, data_at, zeros_at, encoded, encodings, encoded_stream, header}
+use Rattle.stream.specs.Records.{Content, from_name, to_name, image_size, data_at, zeros_at, encoded, encodings, encoded_stream, header, size_in}
 use Rattle.stream.specs.Verdict.{verdict}
 use Rattle.stream.specs.Wellformed.{Bytes}
 use Rattle.stream.specs.Gathered.{Gathered, gathered, gathered_from, gathered_of, none, seen}
-use Rattle.stream.specs.Places.{size_in, Tells}
+use Rattle.stream.specs.Places.{Tells}
 use Rattle.stream.specs.Sound.{GoodMeta, Rising}
 use Rattle.stream.specs.Parts.{StandsFor}
 use Rattle.stream.specs.Told.{SpanIn, Told}

@@ -1,10 +1,11 @@
+-- What was gathered of a stream, with the bytes at their places, tells what its records say.
 use Rattle.std.proofs.Common.{◌≡◌, ℕ, ◌+◌, List, [], ◌∷◌, ◌++◌, map, length, take, drop, sym, refl, ap, ◌∙◌, append_assoc, arith, length-append}
 use Rattle.std.proofs.lemmas.List.{drop-drop, drop_at, take_at, map_push, append-nil}
 use Rattle.stream.specs.Bytes.{le_bytes, field}
 use Rattle.overlay.specs.declared.payloads.Side.{Side}
-use Rattle.stream.specs.Records.{Content, from_name, to_name, image_size, data_at, zeros_at, encoded, encodings, encoded_stream, header}
+use Rattle.stream.specs.Records.{Content, from_name, to_name, image_size, data_at, zeros_at, encoded, encodings, encoded_stream, header, data_of, from_of, to_of, size_in}
 use Rattle.stream.specs.Gathered.{Gathered, gathered, none, zero_run, payload_run}
-use Rattle.stream.specs.Places.{held, named, data_of, from_of, to_of, size_in, PlacesTell}
+use Rattle.stream.specs.Places.{held, named, PlacesTell}
 
 -- a field behind a first part
 pub field_behind : (xs pre rest : List ℕ) (place i n : ℕ) → xs ≡ pre ++ rest → place ≡ length pre → field xs (place + i) n ≡ field rest i n

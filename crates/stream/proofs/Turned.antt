@@ -2,13 +2,13 @@
 use Rattle.std.proofs.Common.{◌≡◌, ℕ, ◌<◌, ltb, List, length, slice_index, Some, None, Ok, Err, Result, sym, refl, ap, ◌∙◌, ap₂, arith}
 use Rattle.std.proofs.lemmas.Bool.{lt-ltb, cond-true}
 use Rattle.stream.specs.Rule.{Data, late_rule}
-use Rattle.stream.specs.Steps.{Pos, answer, after, err_by, fault_at, data_step, zeros_step, record_of, step_of}
+use Rattle.stream.specs.Steps.{Pos, answer, after, fault_at, data_step, zeros_step, record_of, step_of}
 use Rattle.stream.specs.Stands.{finished, unended, next_of, state_of, size_of_state, end_of_state, count_of_state, pos_at, in_data, reached_of}
 use Rattle.stream.specs.declared.kinds.State as code
 use Rattle.stream.specs.declared.kinds.Reached.{Reached}
 use Rattle.stream.specs.declared.kinds.Record.{Record}
 use Rattle.stream.specs.declared.kinds.Record.TheVariants.{From, To, Size, Write, Zero, End}
-use Rattle.fault.specs.Fault.{then}
+use Rattle.fault.specs.Fault.{then, err_by}
 use Rattle.fault.specs.declared.kinds.Fault.{Fault}
 use Rattle.fault.specs.declared.kinds.Cause.{Cause}
 use Rattle.stream.proofs.Forth.{then_ok}

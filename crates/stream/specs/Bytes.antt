@@ -11,10 +11,10 @@ abbrev pub le_bytes : ℕ → ℕ → List ℕ
 le_bytes zero v = []
 le_bytes (suc n) v = v % 256 ∷ le_bytes n (v / 256)
 
--- the n bytes of xs from at on
+-- the n bytes of xs from at on (store's Images has `part` for the same: neither layer knows of the other)
 abbrev pub field : List ℕ → ℕ → ℕ → List ℕ
 field xs at n = take n (drop at xs)
 
--- what a buffer holds after the bytes bs were put into it from a place on
+-- what a buffer holds after the bytes bs were put into it from a place on (store's Images has `overwritten` for the same, as above)
 abbrev pub patched : List ℕ → ℕ → List ℕ → List ℕ
 patched xs at bs = take at xs ++ (bs ++ drop (at + length bs) xs)

@@ -1,5 +1,6 @@
 -- A difference with its two names: what the records of a stream mean, the join of two, what applying one makes of an image, and the one
--- canonical stream of each. Rests on what records mean (Meaning), on their names (Places) and on their bytes (Records).
+-- canonical stream of each. Rests on what records mean (Meaning), on their names and bytes (Records), on reading and faults, on which names are good
+-- (Wellformed), and on overlay's states.
 use Rattle.std.specs.Prelude.{ℕ, ◌^◌, ◌≤◌, List, [], ◌∷◌, ◌++◌, map, length, take, drop, Some, None, Ok, Option, Result}
 use Rattle.fault.specs.Fault.{then}
 use Rattle.fault.specs.declared.kinds.Fault.{Fault}
@@ -7,10 +8,9 @@ use Rattle.overlay.specs.declared.runs.Run.{Run}
 use Rattle.overlay.specs.declared.ranges.RangeMark.{RangeMark}
 use Rattle.overlay.specs.declared.ranges.RangeMark.TheVariants as range
 use Rattle.overlay.specs.States.{first, rest, overlaid}
-use Rattle.stream.specs.Records.{Content, data_at, zeros_at, encoded_stream, metas}
+use Rattle.stream.specs.Records.{Content, data_at, zeros_at, encoded_stream, metas, from_of, to_of}
 use Rattle.stream.specs.Verdict.{verdict}
 use Rattle.stream.specs.Wellformed.{GoodName}
-use Rattle.stream.specs.Places.{from_of, to_of}
 use Rattle.stream.specs.Meaning.{Cell, zeroed, written, cells, ranges}
 
 -- the names of the snapshots that it leads from and to, and the states of the positions; the size is how many these are

@@ -1,4 +1,4 @@
--- What a stream means: a difference, the list of the states of its positions. Rests on the records and on runs of marks.
+-- What a stream means: a difference, the list of the states of its positions. Rests on the records, and on overlay's marks, runs and states.
 use Rattle.std.specs.Prelude.{ℕ, ◌+◌, ◌-◌, cond, ◌&&◌, List, [], ◌∷◌, map, length, Some, None, Option, nat_le, nat_lt, slice_index}
 use Rattle.std.specs.List.{range_with_len}
 use Rattle.std.specs.Option.{option_map}
@@ -8,8 +8,7 @@ use Rattle.overlay.specs.declared.ranges.RangeMark.TheVariants as range
 use Rattle.overlay.specs.Marks.{range_moves, range_alike}
 use Rattle.overlay.specs.Runs.{runs_from}
 use Rattle.overlay.specs.States.{over}
-use Rattle.stream.specs.Records.{Content, from_name, to_name, image_size, data_at, zeros_at}
-use Rattle.stream.specs.Places.{size_in}
+use Rattle.stream.specs.Records.{Content, from_name, to_name, image_size, data_at, zeros_at, size_in}
 
 -- the state of a position that is not kept: zeroed, or written with a byte. A difference is a list of `Option Cell`, None where a position is
 -- kept; its length is the size

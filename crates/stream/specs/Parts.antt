@@ -7,8 +7,7 @@ use Rattle.overlay.specs.declared.ranges.RangeMark.{RangeMark}
 use Rattle.overlay.specs.declared.payloads.PayloadMark.{PayloadMark}
 use Rattle.overlay.specs.declared.payloads.PayloadMark.TheVariants.{Zeroed, Written}
 use Rattle.overlay.specs.declared.payloads.Side.{Side}
-use Rattle.overlay.specs.Marks.{payload_moves, range_moves, range_alike}
-pub use Rattle.overlay.specs.Marks.{range_of}
+use Rattle.overlay.specs.Marks.{payload_moves, range_moves, range_alike, range_of}
 use Rattle.overlay.specs.Payloads.{stream_of}
 use Rattle.overlay.specs.Runs.{painted, Rising, remarked, runs_from}
 use Rattle.stream.specs.Records.{Content}

@@ -1,4 +1,4 @@
--- The records of a stream with what they say, and their bytes: the stream format. Rests on how numbers are written.
+-- The records of a stream with what they say, each and as a list, and their bytes: the stream format. Rests on how numbers are written.
 use Rattle.std.specs.Prelude.{ℕ, List, [], ◌∷◌, ◌++◌, length}
 use Rattle.stream.specs.Bytes.{le_bytes}
 
@@ -36,3 +36,45 @@ from_records (b ∷ bs) = from_name (b ∷ bs) ∷ []
 
 abbrev pub metas : List ℕ → List ℕ → ℕ → List Content
 metas from to size = from_records from ++ (to_name to ∷ (image_size size ∷ []))
+
+-- where in the image the bytes that a record is about begin; metadata is about none, and has 0
+abbrev pub offset_of : Content → ℕ
+offset_of (from_name name) = 0
+offset_of (to_name name) = 0
+offset_of (image_size n) = 0
+offset_of (data_at offset bytes) = offset
+offset_of (zeros_at offset n) = offset
+
+-- the data records of a list
+abbrev pub data_of : List Content → List Content
+data_of [] = []
+data_of (from_name name ∷ cs) = data_of cs
+data_of (to_name name ∷ cs) = data_of cs
+data_of (image_size n ∷ cs) = data_of cs
+data_of (data_at offset bytes ∷ cs) = data_at offset bytes ∷ data_of cs
+data_of (zeros_at offset n ∷ cs) = zeros_at offset n ∷ data_of cs
+
+-- the last f, t and s of a list, and what stands for them before
+abbrev pub from_of : List ℕ → List Content → List ℕ
+from_of before [] = before
+from_of before (from_name name ∷ cs) = from_of name cs
+from_of before (to_name name ∷ cs) = from_of before cs
+from_of before (image_size n ∷ cs) = from_of before cs
+from_of before (data_at offset bytes ∷ cs) = from_of before cs
+from_of before (zeros_at offset n ∷ cs) = from_of before cs
+
+abbrev pub to_of : List ℕ → List Content → List ℕ
+to_of before [] = before
+to_of before (from_name name ∷ cs) = to_of before cs
+to_of before (to_name name ∷ cs) = to_of name cs
+to_of before (image_size n ∷ cs) = to_of before cs
+to_of before (data_at offset bytes ∷ cs) = to_of before cs
+to_of before (zeros_at offset n ∷ cs) = to_of before cs
+
+abbrev pub size_in : ℕ → List Content → ℕ
+size_in before [] = before
+size_in before (from_name name ∷ cs) = size_in before cs
+size_in before (to_name name ∷ cs) = size_in before cs
+size_in before (image_size n ∷ cs) = size_in n cs
+size_in before (data_at offset bytes ∷ cs) = size_in before cs
+size_in before (zeros_at offset n ∷ cs) = size_in before cs

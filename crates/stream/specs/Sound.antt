@@ -2,10 +2,9 @@
 -- the rules record by record (Wellformed).
 use Rattle.std.specs.Prelude.{◌≡◌, ℕ, suc, ◌+◌, ◌^◌, ◌≤◌, List, [], ◌∷◌, ◌++◌, length, Ok, Err, Result}
 use Rattle.std.specs.List.{AllByRecursion}
-use Rattle.stream.specs.Records.{Content, from_name, to_name, image_size, data_at, zeros_at, encoded_stream}
+use Rattle.stream.specs.Records.{Content, from_name, to_name, image_size, data_at, zeros_at, encoded_stream, size_in}
 use Rattle.stream.specs.Verdict.{start, verdict, checked}
 use Rattle.stream.specs.Wellformed.{GoodName, WellFormed, Bytes, Refusal}
-use Rattle.stream.specs.Places.{size_in}
 use Rattle.fault.specs.declared.kinds.Fault.{Fault}
 
 -- metadata with a good name, or a size of at most 2^40

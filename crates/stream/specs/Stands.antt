@@ -2,7 +2,7 @@
 use Rattle.std.specs.Prelude.{◌≡◌, ℕ, ◌+◌, cond, List, length, take, drop, IfOk, Some, None, Ok, Err, Option, Result, nat_lt}
 use Rattle.std.specs.Option.{is_some, unwrap_or}
 use Rattle.stream.specs.Rule.{Seen, State, Meta, Data, late_rule}
-use Rattle.stream.specs.Steps.{Pos, span, name_of, step_of, answer, after, fault_at, err_by}
+use Rattle.stream.specs.Steps.{Pos, span, name_of, step_of, answer, after, fault_at}
 use Rattle.stream.specs.Records.{header}
 use Rattle.stream.specs.Verdict.{start, same}
 use Rattle.stream.specs.declared.kinds.Record.{Record}
@@ -13,7 +13,7 @@ use Rattle.stream.specs.declared.kinds.Reached.{Reached}
 use Rattle.stream.specs.declared.kinds.State as code
 use Rattle.stream.specs.declared.kinds.State.TheVariants as states
 use Rattle.stream.specs.declared.kinds.Reader.{Reader}
-use Rattle.fault.specs.Fault.{then, fault}
+use Rattle.fault.specs.Fault.{then, fault, err_by}
 use Rattle.fault.specs.declared.kinds.Cause.{Cause}
 use Rattle.fault.specs.declared.kinds.Cause.TheVariants as causes
 use Rattle.fault.specs.declared.kinds.Fault.{Fault}

@@ -1,3 +1,5 @@
+-- The checks of one record in their order: what a step reads and where the reader then stands, or the first cause that applies. Rests on the states
+-- and their rules, on numbers in bytes and on faults.
 use Rattle.std.specs.Prelude.{◌≡◌, ℕ, ◌+◌, ◌^◌, ◌<◌, ◌≤◌, Bool, true, cond, ◌&&◌, List, [], ◌∷◌, length, Ok, Err, Result, ◌==◌, nat_le, nat_lt, slice_index}
 use Rattle.stream.specs.Bytes.{le, field}
 use Rattle.stream.specs.Rule.{State, from_rule, to_rule, size_rule, late_rule}
@@ -55,13 +57,13 @@ range_by p rest offset n =
     (cond (nat_lt offset p.end) (Err causes.Overlap)
     (Ok (offset, n))))))
 
-abbrev pub range_of : Pos → List ℕ → Result (ℕ × ℕ) Cause
-range_of p rest = range_by p rest (le (field rest 1 8)) (le (field rest 9 8))
+abbrev pub data_range_of : Pos → List ℕ → Result (ℕ × ℕ) Cause
+data_range_of p rest = range_by p rest (le (field rest 1 8)) (le (field rest 9 8))
 
 -- the same of a record with payload, which has to be there
 abbrev pub payload_of : Pos → List ℕ → Result (ℕ × ℕ) Cause
 payload_of p rest =
-    then (range_of p rest) (λ q. cond (nat_lt (length rest) (17 + q.1)) (Err causes.Cut) (Ok q))
+    then (data_range_of p rest) (λ q. cond (nat_lt (length rest) (17 + q.1)) (Err causes.Cut) (Ok q))
 
 -- a name's part of a stream
 abbrev pub span : ℕ → ℕ → Span
@@ -81,7 +83,7 @@ abbrev pub data_step : Pos → List ℕ → State → Result (Record × Pos) Cau
 data_step p rest s = then (payload_of p rest) (λ q. Ok (Write q.0 q.1 (p.place + 17), record { place = p.place + 17 + q.1; state = s; size = p.size; end = q.0 + q.1; count = p.count + 1 }))
 
 abbrev pub zeros_step : Pos → List ℕ → State → Result (Record × Pos) Cause
-zeros_step p rest s = then (range_of p rest) (λ q. Ok (Zero q.0 q.1, record { place = p.place + 17; state = s; size = p.size; end = q.0 + q.1; count = p.count + 1 }))
+zeros_step p rest s = then (data_range_of p rest) (λ q. Ok (Zero q.0 q.1, record { place = p.place + 17; state = s; size = p.size; end = q.0 + q.1; count = p.count + 1 }))
 
 abbrev pub end_step : Pos → State → Result (Record × Pos) Cause
 end_step p s = Ok (End, record { place = p.place + 1; state = s; size = p.size; end = p.end; count = p.count })
@@ -113,11 +115,6 @@ after p (Err c) = p
 -- the fault of a record: its place is the tag's, of a cut stream the whole length
 abbrev pub fault_at : ℕ → ℕ → Cause → Fault
 fault_at total place c = fault c (cond (cause_number c == 2) total place)
-
--- a result whose error, if it has one, is changed so
-abbrev pub err_by : {T E F : Type 0} → (E → F) → Result T E → Result T F
-err_by g (Ok x) = Ok x
-err_by g (Err c) = Err (g c)
 
 -- how a record that was read lies in the bytes that were left, and what it counts
 abbrev pub Lies : Pos → ℕ → Record → Pos → Type 0

@@ -1,3 +1,5 @@
+-- Which lists of records are well formed, record by record, and what ties them to reading, accepted and refused. Rests on the records, on the states
+-- and their rules, on steps, on reading and on faults.
 use Rattle.std.specs.Prelude.{◌≡◌, ℕ, ◌+◌, ◌^◌, ◌<◌, ◌≤◌, true, ◌⊎◌, List, [], ◌∷◌, ◌++◌, length, take, Ok, Err, Result, ◌≢◌}
 use Rattle.std.specs.List.{AllByRecursion}
 use Rattle.stream.specs.Rule.{State, Data, from_rule, to_rule, size_rule, late_rule}

@@ -1,4 +1,4 @@
-ghost use Rattle.std.specs.Prelude.{◌≡◌, ◌≤◌, map, length, take, drop, IfOk};
+ghost use Rattle.std.specs.Prelude.{◌≡◌, ◌≤◌, map, length, take, drop, IfOk, IfErr};
 ghost use Rattle.overlay.specs.Marks.{range_of};
 ghost use Rattle.overlay.specs.Runs.{remarked};
 ghost use Rattle.stream.specs.Parts.{part_ranges, counted_ranges};
@@ -68,20 +68,21 @@ pub fn find_ranges(sheet: Sheet<PayloadMark>, out: &mut Ranges) -> usize
 fn ranges_in(stream: &[u8], out: &mut Ranges) -> Result<usize, Fault>
     ensures within { IfOk result (λ k. k ≤ 1026) }
     ensures read { counted_ranges result out.new ≡ stream_ranges stream.now }
+    ensures behind { IfOk result (λ k. drop k out.new ≡ drop k out.old) }
+    ensures refused { IfErr result (λ _. out.new ≡ out.old) }
 {
     let mut parts = [Run::<PayloadMark>::NONE; MOST_RECORDS];
     let summary = read(stream, Side::Later, &mut parts)?;
-    let sheet = Sheet {
-        runs: &parts[..summary.count],
-        size: summary.size,
-    };
-    Ok(overlay_nothing(sheet, out))
+    Ok(overlay_nothing(summary.sheet(&parts), out))
 }
 
-// Puts the ranges of a stream to the front of `out`, and counts them.
+// Puts the ranges of a stream to the front of `out`, and counts them; what lies behind them stays, and so does all of it where the
+// stream is refused.
 pub fn read_ranges(stream: &[u8], out: &mut Ranges) -> Result<usize, Fault>
     ensures within { IfOk result (λ k. k ≤ 1026) }
     ensures read { counted_ranges result out.new ≡ stream_ranges stream.now }
+    ensures behind { IfOk result (λ k. drop k out.new ≡ drop k out.old) }
+    ensures refused { IfErr result (λ _. out.new ≡ out.old) }
 {
     ranges_in(stream, out)
 }

@@ -1,6 +1,6 @@
 ghost use Rattle.std.specs.Prelude.{◌≡◌, ◌+◌, ◌-◌, ◌^◌, ◌<◌, ◌≤◌, length, Ok, IfOk};
 ghost use Rattle.stream.specs.Rule.{seen_from, seen_to, seen_size, Data};
-ghost use Rattle.stream.specs.Steps.{range_of, payload_of, step_of, from_step, to_step, size_step, data_step, zeros_step, end_step, fault_at};
+ghost use Rattle.stream.specs.Steps.{data_range_of, payload_of, step_of, from_step, to_step, size_step, data_step, zeros_step, end_step, fault_at};
 ghost use Rattle.stream.specs.Stands.{seen_of, in_meta, in_data, pos_of, rest_of, reached_of, name_step, Took, Opened, finished, Stepped, Turned};
 
 use crate::fields::{array_at, name_length, size_in};
@@ -70,10 +70,10 @@ impl<'a> Reader<'a> {
         &self.bytes[self.place..]
     }
 
-    // The offset and the length of the next record, as one of data. (The writer has a check of its own: here a record that is cut is
-    // told between the two numbers.)
+    // The offset and the length of the next record, as one of data. (The writer has a check of
+    // its own: here a record that is cut is told behind the count of records and before the range.)
     fn range(&self, reached: Reached) -> Result<(u64, u64), Cause>
-        ensures { result ≡ range_of (in_data self.now.place reached) (rest_of self.now) }
+        ensures { result ≡ data_range_of (in_data self.now.place reached) (rest_of self.now) }
     {
         if reached.count >= MOST_RECORDS {
             return Err(Cause::TooManyRecords);

@@ -1,9 +1,9 @@
 -- The table after each step on its entries, and that it is laid out again.
 use Rattle.std.proofs.Common.{◌≡◌, ℕ, suc, ◌+◌, ◌-◌, ◌^◌, ◌<◌, ◌≤◌, List, [], ◌∷◌, ◌++◌, map, length, get_or, take, drop, set, remove, sym, refl, ap, ◌∙◌, subst, ap₂, add-one, arith}
 use Rattle.std.proofs.lemmas.List.{map-append, length-map, length-append, length-take-le, length-drop, take-map, drop-map, get_or-map}
-use Rattle.table.specs.Tables.{Row, Table, end_of, no_row, row_at, moved, LaidOut, EndToEnd}
+use Rattle.table.specs.Tables.{Row, Table, end_of, no_row, row_at, moved, united_row, append_row, take_over, drop_for, LaidOut, EndToEnd}
 use Rattle.table.specs.Entries.{row_of, united_entry, moved_entry, Movable}
-use Rattle.table.specs.Held.{table_of, append_row, take_over, drop_for}
+use Rattle.table.specs.Held.{table_of}
 use Rattle.table.specs.Names.{name_of}
 use Rattle.table.specs.declared.entry.Entry.{Entry}
 use Rattle.table.specs.declared.name.Name.{Name}
@@ -40,7 +40,7 @@ module _ (t : Table) (h : LaidOut t) where
   pub united : (i n : ℕ) (to : List ℕ) → i + 1 < length t.rows → LaidOut (take_over t i n to)
   united i n to l =
       let rs = t.rows in
-      let one : Row = record { place = (row_at t i).place; length = n; from = (row_at t i).from; to = to } in
+      let one : Row = united_row n to (row_at t i) in
       let later = map (moved (end_of (row_at t (i + 1))) ((row_at t i).place + n)) (drop (i + 2) rs) in
       let ends : ℕ → ℕ → Type 0 = λ k d.
       EndToEnd 0 (take i rs ++ (one ∷ map (moved (end_of (row_at t k)) ((row_at t i).place + n)) (drop d rs))) ((row_at t i).place + n + (t.fill - end_of (row_at t k))) in
@@ -152,7 +152,7 @@ module _ (t : Inside) (s : Table) (seen : table_of t ≡ s) (h : LaidOut (table_
       united_is items e =
           let rs = map row_of es in
           let made_of : Row → ℕ → ℕ → Table = λ r p q. record { base = name_of t.base; rows = take i rs ++ r ∷ map (moved p q) (drop (i + 2) rs); fill = q + (t.fill - p) } in
-          let one : Row → Row = λ r. record { place = r.place; length = b; from = r.from; to = name_of to } in
+          let one : Row → Row = united_row b (name_of to) in
           let back : map row_of (map (moved_entry old new) (drop (i + 2) es)) ≡ map (moved old new) (drop (i + 2) rs) =
           rows_moved old new (drop (i + 2) es) ∙ ap (map (moved old new)) (sym (drop-map row_of (i + 2) es)) in
           let row : row_of x ≡ one (row_at (table_of t) i) = ap row_of made ∙ ap one earlier_is in

@@ -54,34 +54,45 @@ fill_after fill start end n = start + n + (fill - end)
 abbrev pub moved : ℕ → ℕ → Row → Row
 moved old new r = record { place = new + (r.place - old); length = r.length; from = r.from; to = r.to }
 
--- a new last entry of n bytes at the fill
-abbrev pub add_row : Table → ℕ → List ℕ → List ℕ → Table
-add_row t n from to = record {
-  base = t.base;
-  rows = t.rows ++ (record { place = t.fill; length = n; from = from; to = to } ∷ []);
-  fill = t.fill + n;
-}
+-- a row with n bytes and another to name
+abbrev pub united_row : ℕ → List ℕ → Row → Row
+united_row n to r = record { place = r.place; length = n; from = r.from; to = to }
 
 -- two neighbours as one entry of n bytes
 abbrev pub one_row : ℕ → Row → Row → Row
-one_row n r s = record { place = r.place; length = n; from = r.from; to = s.to }
+one_row n r s = united_row n s.to r
 
--- entries i and i + 1 as one of n bytes: the earlier entries stay, the later ones move
-abbrev pub unite_rows : Table → ℕ → ℕ → Table
-unite_rows t i n = record {
+-- a new last row
+abbrev pub append_row : Table → Row → Table
+append_row t r = record { base = t.base; rows = t.rows ++ (r ∷ []); fill = t.fill + r.length }
+
+-- row i with n bytes and another to name, in the place of rows i and i + 1: the earlier rows stay, the later ones move
+abbrev pub take_over : Table → ℕ → ℕ → List ℕ → Table
+take_over t i n to = record {
   base = t.base;
-  rows = take i t.rows
-      ++ (one_row n (row_at t i) (row_at t (i + 1)) ∷ map (moved (end_of (row_at t (i + 1))) ((row_at t i).place + n)) (drop (i + 2) t.rows));
+  rows = take i t.rows ++ (united_row n to (row_at t i) ∷ map (moved (end_of (row_at t (i + 1))) ((row_at t i).place + n)) (drop (i + 2) t.rows));
   fill = fill_after t.fill (row_at t i).place (end_of (row_at t (i + 1))) n;
 }
 
--- entry 0 leaves: its to name is the base name, and the others move to the front
-abbrev pub drop_row : Table → Table
-drop_row t = record {
-  base = (row_at t 0).to;
+-- the table without row 0, over a base of another name: the others move to the front
+abbrev pub drop_for : Table → List ℕ → Table
+drop_for t name = record {
+  base = name;
   rows = map (moved (end_of (row_at t 0)) 0) (drop 1 t.rows);
   fill = fill_after t.fill 0 (end_of (row_at t 0)) 0;
 }
+
+-- a new last entry of n bytes at the fill
+abbrev pub add_row : Table → ℕ → List ℕ → List ℕ → Table
+add_row t n from to = append_row t (record { place = t.fill; length = n; from = from; to = to })
+
+-- entries i and i + 1 as one of n bytes, which leads to where the later one leads
+abbrev pub unite_rows : Table → ℕ → ℕ → Table
+unite_rows t i n = take_over t i n (row_at t (i + 1)).to
+
+-- entry 0 leaves, and its to name is the base name
+abbrev pub drop_row : Table → Table
+drop_row t = drop_for t (row_at t 0).to
 
 -- rows that lie end to end from a place up to an end
 abbrev pub EndToEnd : ℕ → List Row → ℕ → Type 0

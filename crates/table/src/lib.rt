@@ -8,4 +8,4 @@ mod table;
 
 pub use entry::Entry;
 pub use name::Name;
-pub use table::EntryTable;
+pub use table::{EntryTable, MOST_ENTRIES};

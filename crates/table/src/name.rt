@@ -1,12 +1,14 @@
 ghost use Rattle.std.specs.Prelude.{◌≡◌, ◌≤◌, [], length, take};
 ghost use Rattle.stream.specs.Verdict.{same};
 
+use stream::LONGEST_NAME;
+
 // The name of a snapshot: the first `length` of at most 64 bytes. The state before the first
 // snapshot has the empty name. A name is Copy, so it keeps its length beside the array: an ArrayVec
 // could only be cloned.
 #[derive(Clone, Copy)]
 pub struct Name {
-    bytes: [u8; 64],
+    bytes: [u8; LONGEST_NAME],
     length: usize,
     ghost short: { length ≤ 64 },
 }
@@ -18,7 +20,7 @@ impl Name {
         ensures { name_of result ≡ [] }
     {
         Name {
-            bytes: [0; 64],
+            bytes: [0; LONGEST_NAME],
             length: 0,
         }
     }
@@ -61,11 +63,11 @@ impl Default for Name {
 }
 
 // The bytes in front, and zeros behind them.
-fn padded(bytes: &[u8]) -> [u8; 64]
+fn padded(bytes: &[u8]) -> [u8; LONGEST_NAME]
     requires { length bytes.now ≤ 64 }
     ensures { take (length bytes.now) result ≡ bytes.now }
 {
-    let mut all = [0; 64];
+    let mut all = [0; LONGEST_NAME];
     all[..bytes.len()].copy_from_slice(bytes);
     all
 }

@@ -6,13 +6,16 @@ use std::marker::Model;
 mod changes;
 mod queries;
 
+// The most entries that a shelf has.
+pub const MOST_ENTRIES: usize = 64;
+
 // The table of a shelf. A shelf keeps difference streams, its entries, end to end at the front of
 // a piece of memory. The table has the name of the snapshot that the base image holds, the entries
 // in order, and the fill, the place where their bytes end. A contract sees it as a Table of specs.
 #[derive(Drop)]
 pub struct EntryTable {
     base: Name,
-    entries: ArrayVec<Entry, 64>,
+    entries: ArrayVec<Entry, MOST_ENTRIES>,
     fill: usize,
 }
 

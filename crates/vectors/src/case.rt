@@ -1,6 +1,6 @@
 use anyhow::anyhow;
 use std::alloc::Global;
-use words::{Room, decoded};
+use words::{Room, decoded, words_of};
 
 // A case: a call, and what it is called with.
 #[derive(Drop)]
@@ -25,10 +25,9 @@ pub enum Case {
     },
 }
 
-// The case of a line; a word that is missing is empty, and words too many are left out.
+// The case of a line. (Flat and paged differ in which words there are, so each has an arm.)
 pub fn read_case(heap: Global, line: &str) -> anyhow::Result<Case> {
-    let mut words = line.split(' ');
-    match [(); 6].map(|()| words.next().unwrap_or("")) {
+    match words_of(line) {
         ["check", stream, ..] => Ok(Case::Check {
             stream: decoded(heap, stream)?,
         }),

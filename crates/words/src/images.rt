@@ -7,7 +7,7 @@ ghost use Rattle.paged.specs.Pages.{paged_set};
 ghost use Rattle.paged.specs.Paged.{paged_image, paged_holds};
 
 use anyhow::anyhow;
-use paged::PagedImage;
+use paged::{PLACES, POOL, PagedImage};
 use std::alloc::{AllocError, Global};
 use store::{FlatImage, Store};
 
@@ -57,8 +57,8 @@ impl Pages {
         ensures map { IfOk result (λ room. room.map.items ≡ replicate (min places 65536) 0) }
         ensures pool { IfOk result (λ room. room.pool.items ≡ replicate (min pages 65535 * 256) 170) }
     {
-        let map = vec![in heap; 0u32; places.min(65536)]?;
-        let pool = vec![in heap; 0xaau8; pages.min(65535) * 256]?;
+        let map = vec![in heap; 0u32; places.min(PLACES)]?;
+        let pool = vec![in heap; 0xaau8; pages.min(POOL) * 256]?;
         Ok(Pages { map, pool })
     }
 
@@ -78,9 +78,8 @@ fn fill<S: Store>(image: &mut S, bytes: &[u8]) -> anyhow::Result<()>
     ensures same { S.holds image.new ≡ S.holds image.old }
     ensures image { OnOk result (S.image image.new ≡ bytes.now) }
 {
-    if image.resize(bytes.len() as u64).is_err() || image.write(0, bytes).is_err() {
-        return Err(anyhow!("the first image does not fit"));
-    }
+    image.resize(bytes.len() as u64)?;
+    image.write(0, bytes)?;
     Ok(())
 }
 
@@ -93,8 +92,6 @@ pub fn contents<S: Store>(heap: Global, image: &S) -> anyhow::Result<Vec<u8>>
         return Err(anyhow!("the image is too large to show"));
     }
     let mut bytes = vec![in heap; 0u8; size as usize]?;
-    if image.read(0, &mut bytes).is_err() {
-        return Err(anyhow!("the image was not read"));
-    }
+    image.read(0, &mut bytes)?;
     Ok(bytes)
 }

@@ -18,6 +18,12 @@ mod tests;
 
 pub use images::{Memory, Pages, Room, contents};
 
+// The first six words of a line: one that is missing is empty, and those past the last are left out.
+pub fn words_of(line: &str) -> [&str; 6] {
+    let mut words = line.split(' ');
+    [(); 6].map(|()| words.next().unwrap_or(""))
+}
+
 // The value of a hexadecimal digit. Words are read by hand: hex::decode also takes upper case, and no odd length.
 fn digit(b: u8) -> anyhow::Result<u8>
     ensures below { IfOk result (λ n. n < 16) }

@@ -2,16 +2,16 @@
 use Rattle.std.proofs.Common.{◌≡◌, ℕ, ◌+◌, ◌^◌, ◌≤◌, Bool, true, false, cond, ◌⊎◌, List, [], ◌∷◌, length, Ok, Err, Result, refl, ap, inl, inr, arith}
 use Rattle.std.proofs.lemmas.Bool.{ltb-true, ltb-false, leb-true, eqb-true, eqb-false, and_parts, or_cases}
 use Rattle.stream.specs.Bytes.{patched}
-use Rattle.stream.specs.Records.{Content, encoded}
-use Rattle.stream.specs.Steps.{Pos, err_by}
+use Rattle.stream.specs.Records.{Content, encoded, offset_of}
+use Rattle.stream.specs.Steps.{Pos}
 use Rattle.stream.specs.Wellformed.{GoodName, GoodRange, moved}
 use Rattle.stream.specs.Rule.{Data}
 use Rattle.writer.specs.Fields.{opening}
-use Rattle.writer.specs.Calls.{good_name, names_check, range_check, fits, named, admitted, offset_of, extent, pos_of, answered, first, Named, Recorded, Finished}
+use Rattle.writer.specs.Calls.{good_name, names_check, range_check, fits, named, admitted, extent, pos_of, answered, first, Named, Recorded, Finished}
 use Rattle.writer.specs.declared.states.Recording.{Recording}
 use Rattle.writer.specs.declared.states.Ended.{Ended}
 use Rattle.writer.specs.declared.states.Refused.{Refused}
-use Rattle.fault.specs.Fault.{then}
+use Rattle.fault.specs.Fault.{then, err_by}
 use Rattle.fault.specs.declared.kinds.Fault.{Fault}
 use Rattle.fault.specs.declared.kinds.Cause.{Cause}
 use Rattle.stream.proofs.Back.{passes}

@@ -1,8 +1,9 @@
--- What the writer's calls answer, and what the buffer then holds. Rests on the stream format, and on where a reader stands behind a record.
+-- What the writer's calls answer, and what the buffer then holds. Rests on the stream format, on the checks of one record, on where a
+-- reader stands behind it, and on faults.
 use Rattle.std.specs.Prelude.{◌≡◌, ℕ, ◌+◌, ◌^◌, ◌≤◌, Bool, cond, ◌&&◌, ◌||◌, List, [], ◌∷◌, length, is_ok, Ok, Err, Result, ◌==◌, nat_le, nat_lt}
 use Rattle.stream.specs.Bytes.{patched}
-use Rattle.stream.specs.Records.{Content, from_name, to_name, image_size, data_at, zeros_at, encoded}
-use Rattle.stream.specs.Steps.{Pos, every_printable, err_by}
+use Rattle.stream.specs.Records.{Content, from_name, to_name, image_size, data_at, zeros_at, encoded, offset_of}
+use Rattle.stream.specs.Steps.{Pos, every_printable}
 use Rattle.stream.specs.Wellformed.{moved, GoodRange}
 use Rattle.stream.specs.Rule.{Data}
 use Rattle.writer.specs.Fields.{opening}
@@ -11,7 +12,7 @@ use Rattle.writer.specs.declared.states.Opened.{Opened}
 use Rattle.writer.specs.declared.states.Recording.{Recording}
 use Rattle.writer.specs.declared.states.Ended.{Ended}
 use Rattle.writer.specs.declared.states.Refused.{Refused}
-use Rattle.fault.specs.Fault.{then, fault}
+use Rattle.fault.specs.Fault.{then, fault, err_by}
 use Rattle.fault.specs.declared.kinds.Fault.{Fault}
 use Rattle.fault.specs.declared.kinds.Cause.{Cause}
 use Rattle.fault.specs.declared.kinds.Cause.TheVariants as causes
@@ -58,14 +59,7 @@ pub record Opens (room : ℕ) (from to : List ℕ) (size : ℕ) (h : Heading) : 
   pub reached : length (opening from to size) ≤ room
   pub sized : size ≤ 2 ^ 40
 
--- the bytes of the image that a record is about: where they begin and how many there are; metadata is about none
-abbrev pub offset_of : Content → ℕ
-offset_of (from_name name) = 0
-offset_of (to_name name) = 0
-offset_of (image_size n) = 0
-offset_of (data_at offset bytes) = offset
-offset_of (zeros_at offset n) = offset
-
+-- how many bytes of the image a record is about; metadata is about none
 abbrev pub extent : Content → ℕ
 extent (from_name name) = 0
 extent (to_name name) = 0

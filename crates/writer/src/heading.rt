@@ -58,8 +58,8 @@ impl<'a> Heading<'a> {
         ensures { tail.new ≡ patched tail.old 0 (opening self.entry.from.now self.entry.to.now self.entry.size) }
     {
         put_bytes(tail, HEADER);
-        self.put_from(&mut tail[12..]);
-        let at = 12 + self.from_length();
+        self.put_from(&mut tail[HEADER.len()..]);
+        let at = HEADER.len() + self.from_length();
         put_name(&mut tail[at..], b't', self.to);
         let at = at + 5 + self.to.len();
         put_u8(&mut tail[at..], b's');

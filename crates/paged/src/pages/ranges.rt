@@ -1,5 +1,5 @@
 // What is done to each page of a range. (Loops over the numbers of the pages: an iterator of parts would be no
-// plainer, since each loop is one line around another call, with an invariant of its own.)
+// plainer, since each loop makes another call on a part, and has an invariant of its own.)
 ghost use Rattle.std.specs.Prelude.{◌≡◌, ◌+◌, ◌*◌, ◌≤◌, length, replicate, nat_le};
 ghost use Rattle.store.specs.Images.{part, overwritten};
 ghost use Rattle.paged.specs.Pages.{met, filled_from, Ready};
@@ -109,6 +109,14 @@ impl<'a> Pages<'a> {
         count
     }
 
+    // Whether the pool has as many pages as would be filled with these bytes in the range, by a count.
+    fn fits(&self, offset: usize, bytes: &[u8]) -> bool
+        requires inside { offset + length bytes.now ≤ 256 * places_of self.now.paging }
+        ensures { result ≡ nat_le (filled_from (places_of self.now.paging) (overwritten (all_of self.now.paging) offset bytes.now)) (pool_of self.now.paging) }
+    {
+        self.filled_with(offset, bytes) <= self.pool_pages()
+    }
+
     // Whether the pool has a page for each page that would be filled with these bytes in the range.
     pub(crate) fn has_room(&self, offset: usize, bytes: &[u8]) -> bool
         requires inside { offset + length bytes.now ≤ 256 * places_of self.now.paging }
@@ -117,6 +125,6 @@ impl<'a> Pages<'a> {
         if self.has_spare(offset, bytes.len()) {
             return true;
         }
-        self.filled_with(offset, bytes) <= self.pool_pages()
+        self.fits(offset, bytes)
     }
 }

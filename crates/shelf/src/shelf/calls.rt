@@ -1,5 +1,5 @@
-// The calls of a shelf. A refusal alters nothing, but for the image where the store stops a settle. Each is thin, around a function
-// with the same contract, so that a wrong call here shows at its own line; that makes them alike in shape.
+// The calls of a shelf. A refusal alters nothing, but for the image where the store stops a settle. All but
+// `new` hand the table to a function of the layer that does the work: that makes them alike in shape.
 ghost use Rattle.std.specs.Prelude.{◌≡◌};
 ghost use Rattle.shelf.specs.Outcomes.{make_answer, put_answer, put_table, put_bytes, join_answer, join_work, join_table, join_bytes, settle_answer, settle_image, settle_table, settle_bytes, list_answer, list_buffer};
 

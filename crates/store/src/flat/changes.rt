@@ -5,7 +5,7 @@ ghost use Rattle.store.specs.Flat.{flat_memory, flat_image, flat_holds};
 
 use crate::flat::FlatImage;
 
-// The largest image: 2^40 bytes.
+// The largest image: 2^40 bytes. (The largest size of a stream is the same number; stores know nothing of streams.)
 const LIMIT: u64 = 1 << 40;
 
 // The largest size of an image in a piece of memory.

@@ -1,8 +1,7 @@
 ghost use Rattle.std.specs.Prelude.{◌≡◌, ◌+◌, ◌^◌, ◌<◌, ◌≤◌, length};
 ghost use Rattle.table.specs.Entries.{row_of};
-ghost use Rattle.table.specs.Held.{append_row, take_over, drop_for};
 ghost use Rattle.table.specs.Names.{name_of};
-ghost use Rattle.table.specs.Tables.{empty_table, add_row, unite_rows, drop_row};
+ghost use Rattle.table.specs.Tables.{empty_table, append_row, take_over, drop_for, add_row, unite_rows, drop_row};
 
 use crate::entry::Entry;
 use crate::name::Name;

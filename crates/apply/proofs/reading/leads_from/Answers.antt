@@ -1,4 +1,4 @@
-use Rattle.std.proofs.Common.{◌≡◌, ◌+◌, ◌-◌, take, drop, ap, ◌∙◌, arith, rules}
+use Rattle.std.proofs.Common.{◌≡◌, ap, ◌∙◌, rules}
 use Rattle.std.proofs.lemmas.Slice.Eq.{slice_eq-Decides, compares_Decides}
 use Rattle.std.proofs.lemmas.Bool.Decides.{same_from_decides, Decides-eqb}
 use Rattle.stream.specs.Verdict.{same}
@@ -9,9 +9,6 @@ pub returns : goal.returns
 returns c =
     let xs = c.args.stream.now in
     let name = c.args.name.now in
-    let place = c.args.summary.from.place in
-    let n = c.args.summary.from.length in
-    let cut = take (place + n - place) (drop place xs) in
-    let from : cut ≡ _ = ap (λ k. take k (drop place xs)) (omega arith) ∙ c.requires.tells.from in
-    let met : c.eq.result ≡ same cut name = same_from_decides _ _ (slice_eq-Decides Decides-eqb _ _ _ c.eq.ensures) (compares_Decides same (search rules) cut name) in
-    leads name xs c.requires.records c.eq.result c.requires.was_read (met ∙ ap (λ bytes. same bytes name) from)
+    let from = c.of.result.now in
+    let met : c.eq.result ≡ same from name = same_from_decides _ _ (slice_eq-Decides Decides-eqb _ _ _ c.eq.ensures) (compares_Decides same (search rules) from name) in
+    leads name xs c.requires.records c.eq.result c.requires.was_read (met ∙ ap (λ bytes. same bytes name) (c.of.ensures.bytes ∙ c.requires.tells.from))

@@ -1,4 +1,4 @@
-use Rattle.std.proofs.Common.{sym, refl}
+use Rattle.std.proofs.Common.{sym}
 use Rattle.std.proofs.lemmas.Result.{err_from_is_err_and}
 use Rattle.stream.proofs.Ranged.{gathered_err}
 use Rattle.join.specs.Sources.{source_cells}
@@ -17,19 +17,19 @@ invariant_of-result c =
     let s = c.in_ok-summary.summary in
     let t = c.in_ok-summary.ensures.told in
     let out = c.read.new.out in
-    let a = c.name_in.ensures in
-    let b = c.name_in-2.ensures in
+    let a = c.of.ensures in
+    let b = c.of-2.ensures in
     record {
-      was_read = ∣ (c.args.side, told_on c.args.side xs c.name_in.result.now c.name_in-2.result.now s out _ t refl a.short b.short) ∣₁;
+      was_read = ∣ (c.args.side, rw c.sheet.ensures.size (told_on c.args.side xs c.of.result.now c.of-2.result.now s out _ t (sym c.sheet.ensures.runs) a.short b.short)) ∣₁;
     }
 
 pub returns-clause-means : goal.returns-clause-means
 unfolding source_cells
 returns-clause-means c =
     let t = c.in_ok-summary.ensures.told in
-    sym (told_meaning c.args.side c.args.stream.now c.name_in.result.now c.name_in-2.result.now c.in_ok-summary.summary c.read.new.out _ t refl c.name_in.ensures.bytes c.name_in-2.ensures.bytes)
+    rw c.sheet.ensures.size (sym (told_meaning c.args.side c.args.stream.now c.of.result.now c.of-2.result.now c.in_ok-summary.summary c.read.new.out _ t (sym c.sheet.ensures.runs) c.of.ensures.bytes c.of-2.ensures.bytes))
 
 pub returns-clause-sourced : goal.returns-clause-sourced
 returns-clause-sourced c =
     let t = c.in_ok-summary.ensures.told in
-    told_on c.args.side c.args.stream.now c.name_in.result.now c.name_in-2.result.now c.in_ok-summary.summary c.read.new.out _ t refl c.name_in.ensures.short c.name_in-2.ensures.short
+    rw c.sheet.ensures.size (told_on c.args.side c.args.stream.now c.of.result.now c.of-2.result.now c.in_ok-summary.summary c.read.new.out _ t (sym c.sheet.ensures.runs) c.of.ensures.short c.of-2.ensures.short)

@@ -1,4 +1,5 @@
-use Rattle.std.proofs.Common.{[], take, Ok, sym, refl, ap, ◌∙◌}
+use Rattle.std.proofs.Common.{[], take, Ok, sym, refl, ap, ◌∙◌, ap₂}
+use Rattle.stream.specs.Parts.{part_ranges}
 use Rattle.std.proofs.lemmas.Result.{err_from_is_err_and}
 use Rattle.fault.specs.Fault.{then}
 use Rattle.stream.specs.Meaning.{cells, ranges}
@@ -20,4 +21,4 @@ returns-clause-read c =
     let s = c.in_ok-summary.summary in
     let xs = c.args.stream.now in
     let e = sym (part_ranges_are [] xs (take s.count c.read.new.out) s.size) ∙ ap ranges (t.stands.means [] xs refl) in
-    ap Ok (c.overlay_nothing.ensures.ranges ∙ e) ∙ sym (ap (λ o. then o (λ cs. Ok (ranges (cells cs)))) t.was_read)
+    ap Ok (c.overlay_nothing.ensures.ranges ∙ ap₂ part_ranges c.sheet.ensures.runs c.sheet.ensures.size ∙ e) ∙ sym (ap (λ o. then o (λ cs. Ok (ranges (cells cs)))) t.was_read)

@@ -1,10 +1,10 @@
-use Rattle.std.proofs.Common.{◌≡◌, suc, ◌-◌, length, Ok, sym, ap, ◌∙◌, ap₂, arith}
+use Rattle.std.proofs.Common.{◌≡◌, suc, ◌-◌, length, drop, refl, Ok, sym, ap, ◌∙◌, ap₂, arith}
 use Rattle.std.proofs.lemmas.Result.{err_from_is_err_and}
 use Rattle.stream.specs.Verdict.{reads}
 use Rattle.stream.specs.Gathered.{gathered_from, gathered_of, none}
 use Rattle.stream.specs.Stands.{pos_of, rest_of}
 use Rattle.stream.proofs.Ran.{begun, reads_on, reads_none, reads_fault}
-use Rattle.stream.proofs.Gathers.{taken_noted, counted, has_room}
+use Rattle.stream.proofs.Gathers.{taken_noted, counted, has_room, behind}
 use Rattle.stream.proofs.reading.gather.Goals as goal
 
 pub loop-record-init : goal.loop-record-init
@@ -14,6 +14,7 @@ loop-record-init c =
       b.0,
       ap (λ p. p.count) b.1,
       omega arith,
+      refl,
       (
         length c.in_ok-reader.reader.bytes.now,
         let l = ap length b.0 in omega arith,
@@ -24,7 +25,7 @@ loop-record-init c =
 pub returns-in_err-record-clause-gathers : goal.returns-in_err-record-clause-gathers
 returns-in_err-record-clause-gathers c =
     let y = err_from_is_err_and c.from_residual-in_err-record.result c.from_residual-in_err-record.ensures.1 in
-    let i = c.loop-record.invariant.3 in
+    let i = c.loop-record.invariant.4 in
     let old = c.loop-record.reader in
     let f = reads_fault i.0 old c.next.new.self c.next.result _ c.next.ensures c.in_err-record.was in
     rw (y.1, y.2) (sym (ap (gathered_from c.args.side (gathered_of c.loop-record.summary c.loop-record.out) old.place) f) ∙ i.2)
@@ -36,7 +37,7 @@ loop-record-preserved c =
     let s = c.loop-record.summary in
     let out = c.loop-record.out in
     let r = c.in-Some.record in
-    let i = c.loop-record.invariant.3 in
+    let i = c.loop-record.invariant.4 in
     let k = i.0 in
     let p = pos_of old in
     let q = pos_of new in
@@ -59,6 +60,7 @@ loop-record-preserved c =
       b,
       e ∙ few.0,
       (let a = few.0 in let b = few.1 in omega arith),
+      ap₂ drop e c.note.ensures.runs ∙ behind c.args.side r s out c.args.out.now c.loop-record.invariant.3 ∙ ap (λ n. drop n c.args.out.now) (sym e),
       (
         k - 1,
         omega arith,
@@ -72,7 +74,7 @@ loop-record-preserved c =
 
 pub returns-clause-gathers : goal.returns-clause-gathers
 returns-clause-gathers c =
-    let i = c.loop-record.invariant.3 in
+    let i = c.loop-record.invariant.4 in
     let old = c.loop-record.reader in
     let n = reads_none i.0 old c.next.new.self c.next.result c.next.ensures (c.in_ok-record.was ∙ ap Ok c.in_default.is) in
     sym (ap (gathered_from c.args.side (gathered_of c.loop-record.summary c.loop-record.out) old.place) n) ∙ i.2
@@ -86,3 +88,6 @@ loop-record-smaller c =
     let m = t.3 in
     let w = new.within in
     omega arith
+
+pub returns-clause-behind : goal.returns-clause-behind
+returns-clause-behind c = c.loop-record.invariant.3

@@ -8,13 +8,13 @@ use Rattle.join.proofs.pairs.Pair.find_plan.Goals as goal
 pub stream_length-requires-clause-rising : goal.stream_length-requires-clause-rising
 stream_length-requires-clause-rising c =
     let p = c.args.self in
-    join_rises p.earlier p.later _ c.in-Some.ensures.1 (omega (arith, small_size p.later))
+    join_rises p.earlier p.later _ c.in-Some.ensures.ranges.1 (omega (arith, small_size p.later))
 
 pub returns-clause-plan : goal.returns-clause-plan
 returns-clause-plan c =
     let p = c.args.self in
     let d = pair_join p in
-    let got = c.in-Some.ensures in
+    let got = c.in-Some.ensures.ranges in
     let few = counted_most _ _ c.in-Some.count (omega arith) got.0 got.1 in
     let build : ℕ → ℕ → Plan = λ m n. record { count = m; length = n } in
     let told = c.stream_length.ensures ∙ join_length_told p.earlier p.later _ got.1 (omega (arith, small_size p.later)) in

@@ -4,7 +4,8 @@ use Rattle.std.proofs.lemmas.Bool.{le-leb}
 use Rattle.store.specs.Images.{overwritten}
 use Rattle.store.proofs.ImageLaws.{length_overwritten, take_overwritten}
 use Rattle.paged.specs.Pages.{all_pages, places, pool_pages, filled_pages}
-use Rattle.paged.specs.PageLaws.{length_all, same_set}
+use Rattle.paged.specs.PageLaws.{length_all}
+use Rattle.paged.proofs.PageBytes.{same_set}
 use Rattle.paged.specs.Paged.{paged_image}
 use Rattle.paged.proofs.Puts.{blank_zeros}
 use Rattle.paged.proofs.Ranges.{zeros_fill_less}

@@ -3,7 +3,7 @@ use Rattle.std.proofs.lemmas.Bool.{leb-true}
 use Rattle.store.specs.Images.{overwritten}
 use Rattle.store.proofs.ImageLaws.{length_overwritten, take_overwritten}
 use Rattle.paged.specs.Pages.{all_pages, places, pool_pages, filled_pages}
-use Rattle.paged.specs.PageLaws.{same_set}
+use Rattle.paged.proofs.PageBytes.{same_set}
 use Rattle.paged.specs.Paged.{paged_image}
 use Rattle.paged.proofs.Whole.{fits_of, whole_of, valid_of, by_count, ended_over, filled_over}
 use Rattle.paged.proofs.image.PagedImage.put.Goals as goal

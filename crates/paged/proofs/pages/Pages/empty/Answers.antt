@@ -1,8 +1,8 @@
 use Rattle.std.proofs.Common.{◌≡◌, ℕ, ◌+◌, ◌*◌, ◌<◌, List, get_or, sym, refl, ◌∙◌, arith}
 use Rattle.std.proofs.lemmas.Bool.{eq-eqb}
 use Rattle.paged.specs.Pages.{all_pages, places, Sound}
-use Rattle.paged.specs.PageLaws.{all_clear, pages_none, same_set}
-use Rattle.paged.specs.FilledLaws.{filled_zero, page_blank}
+use Rattle.paged.proofs.PageBytes.{all_clear, pages_none, same_set}
+use Rattle.paged.proofs.FilledLaws.{filled_zero, page_blank}
 use Rattle.paged.proofs.Whole.{valid_of}
 use Rattle.paged.proofs.pages.Pages.empty.Goals as goal
 

@@ -3,7 +3,7 @@ use Rattle.std.proofs.lemmas.List.{take_all}
 use Rattle.store.specs.Images.{overwritten}
 use Rattle.store.proofs.ImageLaws.{overwritten_none}
 use Rattle.paged.specs.Pages.{all_pages, places, reach, filled_from}
-use Rattle.paged.specs.FilledLaws.{filled_small, weight_small}
+use Rattle.paged.proofs.FilledLaws.{filled_small, weight_small}
 use Rattle.std.specs.Int.{from_bool}
 use Rattle.paged.proofs.Puts.{weight_filled, weight_place}
 use Rattle.paged.proofs.Ranges.{part_of, chunk_count}

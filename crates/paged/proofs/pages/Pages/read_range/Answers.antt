@@ -2,7 +2,8 @@ use Rattle.std.proofs.Common.{◌≡◌, ℕ, ◌+◌, ◌-◌, ◌*◌, ◌<◌
 use Rattle.store.specs.Images.{part}
 use Rattle.store.proofs.ImageLaws.{length_overwritten, put_between}
 use Rattle.paged.specs.Pages.{all_pages, reach}
-use Rattle.paged.specs.PageLaws.{length_all, read_whole}
+use Rattle.paged.specs.PageLaws.{length_all}
+use Rattle.paged.proofs.PageBytes.{read_whole}
 use Rattle.paged.proofs.Ranges.{part_of}
 use Rattle.paged.proofs.Reading.{read_more}
 use Rattle.paged.proofs.pages.Pages.read_range.Goals as goal

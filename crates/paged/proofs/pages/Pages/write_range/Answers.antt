@@ -1,4 +1,4 @@
-use Rattle.std.proofs.Common.{◌≡◌, ℕ, min, ap, ◌∙◌, arith}
+use Rattle.std.proofs.Common.{◌≡◌, min, ap, ◌∙◌, arith}
 use Rattle.paged.specs.Pages.{places}
 use Rattle.paged.proofs.Steps.{kept_on}
 use Rattle.paged.proofs.pages.Pages.write_range.Goals as goal

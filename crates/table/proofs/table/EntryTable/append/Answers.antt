@@ -1,7 +1,7 @@
 use Rattle.std.proofs.Common.{◌+◌, List, map, sym, ap, ◌∙◌, subst}
 use Rattle.std.proofs.lemmas.List.{map_push}
 use Rattle.table.specs.Entries.{row_of}
-use Rattle.table.specs.Held.{append_row}
+use Rattle.table.specs.Tables.{append_row}
 use Rattle.table.specs.Names.{name_of}
 use Rattle.table.specs.Tables.{Row, Table, LaidOut}
 use Rattle.table.proofs.Steps.{appended}

@@ -5,7 +5,7 @@ use Rattle.store.specs.Images.{overwritten}
 use Rattle.store.proofs.ImageLaws.{length_overwritten, put_between}
 use Rattle.std.proofs.lemmas.Bool.{eq-eqb, ne_eqb}
 use Rattle.paged.specs.Pages.{all_pages, pool_pages, places, Kept}
-use Rattle.paged.specs.FilledLaws.{weight_one, weight_none}
+use Rattle.paged.proofs.FilledLaws.{weight_one, weight_none}
 use Rattle.paged.proofs.Puts.{put_count, sound_put}
 use Rattle.paged.proofs.Steps.{spare_within, placed_claim, placed_over, claimed, stored, kept_step, kept_pool, kept_on}
 use Rattle.paged.proofs.pages.paging.Paging.claim.Goals as goal

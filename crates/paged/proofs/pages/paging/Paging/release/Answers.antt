@@ -4,7 +4,7 @@ use Rattle.std.proofs.lemmas.List.{get_or-set_same, get_or-set_other}
 use Rattle.std.proofs.lemmas.Bool.{eq-eqb, ne_eqb}
 use Rattle.store.specs.Images.{overwritten}
 use Rattle.paged.specs.Pages.{all_pages, places, Sound}
-use Rattle.paged.specs.FilledLaws.{weight_one, weight_none}
+use Rattle.paged.proofs.FilledLaws.{weight_one, weight_none}
 use Rattle.paged.proofs.Steps.{placed_release, released, kept_set}
 use Rattle.paged.proofs.Puts.{put_count, sound_put, blank_zeroed}
 use Rattle.paged.proofs.pages.paging.Paging.release.Goals as goal

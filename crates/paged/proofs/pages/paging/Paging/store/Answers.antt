@@ -3,7 +3,7 @@ use Rattle.std.proofs.lemmas.Bool.{eq-eqb, ne_eqb}
 use Rattle.store.specs.Images.{overwritten}
 use Rattle.store.proofs.ImageLaws.{length_overwritten, put_between}
 use Rattle.paged.specs.Pages.{all_pages, page_of, blank, places, pool_pages, filled_from, Sound, Kept}
-use Rattle.paged.specs.FilledLaws.{weight_one, weight_none}
+use Rattle.paged.proofs.FilledLaws.{weight_one, weight_none}
 use Rattle.paged.proofs.Steps.{stored, placed_over, kept_pool}
 use Rattle.paged.proofs.Puts.{put_count, sound_put}
 use Rattle.paged.proofs.pages.paging.Paging.store.Goals as goal
