@@ -61,7 +61,6 @@ static void growth(void) {
     printf("| records each | payload each | check, us | list, us | join, us | to memcpy |\n|---|---|---|---|---|---|\n");
     for (uint64_t records = 2; records <= RECORDS; records *= 4) row(records, 64);
     for (uint64_t payload = SMALL; payload <= LARGE; payload *= 8) row(128, payload);
-    row(128, LARGE);
 }
 
 static void save(const char *path, struct bytes b) {

@@ -252,10 +252,7 @@ lacks apply-missing missing
 run apply-link 1 apply first a link
 holds apply-link kept second
 
-cp "$home/crates/lovgwarzh/stdout" want/streams.out
-: >want/streams.err
-run streams 0
-cp "$home/tools/tour.txt" want/tour.out
+cp "$home/crates/lovgwarzh/stdout" want/tour.out
 : >want/tour.err
 run tour 0 tour
 "$program" help >want/help.out
@@ -266,6 +263,7 @@ run help 0 -h
 run help 0 --help
 : >want/usage.out
 cp want/help.out want/usage.err
+run usage 1
 run usage 1 chek first
 run usage 1 check
 run usage 1 check first second

@@ -5,8 +5,8 @@
     tools/planted.py --edits [CRATE..]  the edits of crates/CRATE/must-fail instead
     tools/planted.py --texts ..         only says which of these can't be planted: no check is run
 
-It works in a copy of the repository, by `rt check`, which takes over what an edit does not touch: a first look at an
-edit is much cheaper than in the gate. A bug is a block of lines
+It works in a copy of the repository, with what was proved here already, by `rt check`, which takes over what an edit does
+not touch: a first look at an edit is much cheaper than in the gate. A bug is a block of lines
 `name`, `file: PATH`, `old: TEXT`, `new: TEXT`, and blocks are apart by an empty line; OLD stands once in the file.
 Further pairs of `old:` and `new:` apply to what the earlier ones made; a `file:` holds for the pairs behind it."""
 import re
@@ -119,7 +119,7 @@ def try_all(crates, edits):
     count = survived = 0
     with tempfile.TemporaryDirectory() as place:
         copy = Path(place) / "copy"
-        shutil.copytree(HOME, copy, ignore=shutil.ignore_patterns(".git", "out", "target"))
+        shutil.copytree(HOME, copy, ignore=shutil.ignore_patterns(".git"))
         for crate in crates:
             folder = copy / "crates" / crate
             if check(folder) != PROVED:

@@ -1,4 +1,4 @@
-"""The rules of docs/FORMAT.md, docs/MEANING.md and docs/REFUSALS.md, written a second time, in Python, from these pages alone.
+"""The rules of docs/FORMAT.md, docs/MEANING.md, docs/REFUSALS.md and docs/STORES.md, written a second time, in Python, from these pages alone.
 
 It shares nothing with the proved code, so that the two can be held against each other. Differences are small here: a position's
 state is looked at one by one."""
@@ -218,7 +218,9 @@ def apply(stream, name, image, holds):
 
 
 def carried_out(records, image, holds):
-    """The fault's numbers or None, and the image with the records' size and steps: what came before a refusal stands."""
+    """The fault's numbers or None, and the image with the records' size and steps: what came before a refusal stands.
+
+    No case has a store of 16 MiB or more, so a larger size is refused without making the image."""
     size = metadata(records)["s"]
     grown = image[:size] + bytes(max(0, size - len(image))) if size < 1 << 24 else None
     if grown is None or not holds(grown):

@@ -17,7 +17,6 @@ pub enum Command<'a> {
         name: &'a str,
         image: &'a str,
     },
-    Streams,
     Tour,
     Help,
 }
@@ -30,19 +29,18 @@ pub const USAGE: &str = "usage: lovgwarzh COMMAND
   join EARLIER LATER OUT     joins two streams that follow each other, and writes the join to OUT
   apply STREAM NAME IMAGE    applies a stream to the file IMAGE, which stands at snapshot NAME
                              (- before the first snapshot)
-  tour                       shows the calls on examples, streams and a shelf; without a COMMAND
-                             the examples of streams alone are shown
+  tour                       shows the calls at work on examples, streams and a shelf
   help                       prints this
 
 A command that is refused, or cannot read or write a file, says why on standard error, ends with
 status 1, and leaves OUT and IMAGE as they were. Files are held in memory, up to 4 GiB each.
 ";
 
-// The command that the words behind the program's name ask for; None where they name none, or are too
-// few or too many.
+// The command that the words behind the program's name ask for; None where there are none, or they name
+// none, or are too few or too many.
 pub fn parse(words: &[String]) -> Option<Command<'_>> {
     let [name, rest @ ..] = words else {
-        return Some(Command::Streams);
+        return None;
     };
     match (name.as_str(), rest) {
         ("check", [file]) => Some(Command::Check {

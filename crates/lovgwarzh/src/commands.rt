@@ -14,8 +14,9 @@ use std::io::Write;
 use store::{FlatImage, Store};
 use stream::{MOST_RECORDS, Span, Summary, check, read};
 
-// A name of a stream as text, and `-` for the empty one. Names are printable, so they always are text. (No type's own `Display` is
-// that: a `Span` knows only where the name lies.)
+// A name of a stream as text, and `-` for the empty one. Names are printable, so they always are text.
+// (No type's own `Display` is that: a `Span` knows only where the name lies. It is cut out by `get`, since
+// nothing here knows that it lies in the stream.)
 fn name_text(stream: &[u8], name: Span) -> &str {
     let behind = stream.get(name.place..).unwrap_or(b"");
     let bytes = behind.get(..name.length).unwrap_or(b"");
@@ -54,8 +55,8 @@ pub fn check_file(rt: &HostRuntime, path: &str) -> Result<(), Failure> {
     Ok(())
 }
 
-// How many bytes the list of a stream has: a list into no buffer tells it in its refusal. (A match, since that one cause is no refusal
-// here and every other goes on.)
+// How many bytes the list of a stream has: a list into no buffer tells it in its refusal. (A match, since
+// that one cause is no refusal here and every other goes on.)
 fn list_length(stream: &[u8]) -> Result<u64, Fault> {
     match list(stream, &mut []) {
         Ok(n) => Ok(n as u64),
@@ -75,8 +76,8 @@ pub fn list_file(rt: &HostRuntime, path: &str) -> Result<(), Failure> {
     Ok(())
 }
 
-// A refusal of a join, told with the stream that has the fault, or with both where they do not fit. (A match: each arm has words of
-// its own.)
+// A refusal of a join, told with the stream that has the fault, or with both where they do not fit. (A
+// match: each arm names other files.)
 fn refused_join(heap: Global, earlier: &str, later: &str, fault: Fault) -> Failure {
     match (fault.layer, fault.entry) {
         (Layer::Stream, 0) => Failure::about(heap, earlier, fault),

@@ -35,8 +35,8 @@ pub enum Failure {
 }
 
 impl Failure {
-    // The trouble, told with the path of the file that it is about. (A match, since either way it is a failure: there is no result that
-    // `?` could hand on.)
+    // The trouble, told with the path of the file that it is about. (A match, since either way it is a
+    // failure: there is no result that `?` could hand on.)
     pub fn about(
         heap: Global,
         path: impl fmt::Display + Drop,

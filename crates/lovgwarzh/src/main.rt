@@ -6,7 +6,7 @@ use commands::{apply_to_file, check_file, join_files, list_file};
 use failure::Failure;
 use std::process::ExitCode;
 use std::{env, io};
-use tour::{show_streams, show_tour};
+use tour::show_tour;
 
 mod command;
 mod commands;
@@ -31,7 +31,6 @@ fn carry_out(rt: &HostRuntime, command: Command) -> Result<(), Failure> {
             name,
             image,
         } => apply_to_file(rt, stream, name, image),
-        Command::Streams => Ok(show_streams(rt)?),
         Command::Tour => Ok(show_tour(rt)?),
         Command::Help => Ok(rt.print(USAGE)?),
     }

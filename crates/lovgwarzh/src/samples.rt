@@ -126,7 +126,8 @@ impl Difference {
     }
 }
 
-// What a call of the tour answers; a refusal is said before it ends the tour. (`map_err` cannot print, since printing may fail.)
+// What a call of the tour answers; a refusal is said before it ends the tour. (`map_err` cannot print, since
+// printing may fail.)
 pub fn accepted<T>(rt: &HostRuntime, answer: Result<T, Fault>) -> anyhow::Result<T> {
     match answer {
         Ok(x) => Ok(x),

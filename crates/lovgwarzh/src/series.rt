@@ -94,7 +94,7 @@ fn part(buffer: &[u8], start: usize, n: usize) -> &[u8] {
     front(buffer.get(start..).unwrap_or(&[]), n)
 }
 
-// Says what came of a call; of a list its text.
+// Says what came of a call; of a list its text. (A match: the requests are a closed list.)
 fn show_step(
     rt: &HostRuntime,
     step: &Step,
@@ -168,17 +168,14 @@ fn show_chain(rt: &HostRuntime, chain: [&[u8]; 4]) -> anyhow::Result<()> {
     let mut base = PagedImage::open(&mut map, &mut pool);
     let mut memory = [0u8; 768];
     let mut copy = FlatImage::open(&mut memory, 0);
-    if fill_image(&mut base).is_err() || fill_image(&mut copy).is_err() {
-        return Err(anyhow!("the first image does not fit"));
-    }
+    fill_image(&mut base)?;
+    fill_image(&mut copy)?;
     println!(rt; "a shelf beside a base image of three pages in a pool of two, at snapshot a:")?;
     let shelf = play_series(rt, &mut base, chain)?;
     let left = shelf.count();
     println!(rt; "entries left: {left}")?;
     show_pages(rt, "the base image that comes back", &base)?;
-    if apply_chain(&mut copy, chain).is_err() {
-        return Err(anyhow!("the chain was not applied"));
-    }
+    apply_chain(&mut copy, chain)?;
     show_pages(rt, "the four streams applied in order", &copy)
 }
 

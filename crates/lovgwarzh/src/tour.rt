@@ -1,6 +1,6 @@
 // A tour of the work: it writes a difference stream, checks it, lists it, shows refusals, joins two
-// streams, applies the join, and plays a series of calls on a shelf. (Most refusals here are what the tour shows: each is matched, and
-// said in words of its own.)
+// streams, applies the join, and plays a series of calls on a shelf. (Most refusals here are what the tour
+// shows: each is matched, and said in words of its own.)
 use crate::samples::{CUT, GROWN, SAMPLE, accepted};
 use crate::series::show_series;
 use anyhow::anyhow;
@@ -87,9 +87,7 @@ pub fn show_bytes<S: Store>(
     n: usize,
 ) -> anyhow::Result<()> {
     let mut bytes = vec![in rt.alloc(); 0u8; n]?;
-    if image.read(offset, &mut bytes).is_err() {
-        return Err(anyhow!("the image ends before these bytes"));
-    }
+    image.read(offset, &mut bytes)?;
     for b in bytes.iter_mut() {
         if *b == 0 {
             *b = b'.';
@@ -151,16 +149,7 @@ fn show_join(rt: &HostRuntime) -> anyhow::Result<()> {
     Ok(())
 }
 
-// Prints the tour of streams: what a call without words shows.
-pub fn show_streams(rt: &HostRuntime) -> anyhow::Result<()> {
-    println!(rt;
-        "Lovgwarzh: differences between snapshots of an image, checked, listed, joined and applied."
-    )?;
-    show_one_stream(rt)?;
-    show_join(rt)
-}
-
-// Prints the whole tour: streams, and a series of calls on a shelf.
+// Prints the tour: streams, and a series of calls on a shelf.
 pub fn show_tour(rt: &HostRuntime) -> anyhow::Result<()> {
     println!(rt;
         "Lovgwarzh: differences between snapshots of an image, checked, listed, joined, applied, and kept on a shelf."
