@@ -220,7 +220,7 @@ def apply(stream, name, image, holds):
 def carried_out(records, image, holds):
     """The fault's numbers or None, and the image with the records' size and steps: what came before a refusal stands.
 
-    No case has a store of 16 MiB or more, so a larger size is refused without making the image."""
+    No case has a size of 16 MiB or more that its store can hold, so such a size is refused without making the image."""
     size = metadata(records)["s"]
     grown = image[:size] + bytes(max(0, size - len(image))) if size < 1 << 24 else None
     if grown is None or not holds(grown):

@@ -11,7 +11,7 @@ use Rattle.overlay.proofs.Painted.{over_none}
 use Rattle.overlay.proofs.Bridge.{runs_states}
 use Rattle.stream.specs.Records.{Content, from_name, to_name, image_size, data_at, zeros_at, data_of, size_in}
 use Rattle.stream.specs.Meaning.{mark_of, given, laid, cells, ranges}
-use Rattle.stream.specs.Sound.{GoodMeta, Sound}
+use Rattle.stream.specs.Sound.{Sound}
 use Rattle.stream.specs.Sound as sound
 use Rattle.overlay.proofs.RangeRuns.{ranges_exist}
 use Rattle.stream.proofs.Meanings.{size_first, size_small}

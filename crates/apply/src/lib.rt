@@ -11,7 +11,7 @@ ghost use Rattle.stream.specs.Told.{Told};
 ghost use Rattle.stream.specs.Verdict.{verdict};
 
 use fault::Fault;
-use overlay::{PayloadMark, RangeMark, Run, Sheet};
+use overlay::{PayloadMark, RangeMark, Run};
 use ranges::{apply_ranges, resize_first};
 use reading::{read_from, rising_ranges};
 use store::Store;

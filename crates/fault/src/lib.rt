@@ -96,7 +96,7 @@ pub trait Located {
         ensures { result ≡ entered entry self };
 }
 
-// (By the fault's own two methods, and of one shape as they are.)
+// (Each by the fault's method of the same name, so the two are of one shape.)
 impl<T> Located for Result<T, Fault> {
     ghost recorded = { λ i r. fault_by (in_record i) r };
 

@@ -1,4 +1,5 @@
--- The length of a canonical stream, by its names and ranges alone. Rests on the stream format.
+-- The length of a canonical stream, by its names and ranges alone. Rests on overlay's runs and range marks, and repeats the
+-- lengths of the stream format.
 use Rattle.std.specs.Prelude.{ℕ, ◌+◌, List, [], ◌∷◌, length}
 use Rattle.overlay.specs.declared.runs.Run.{Run}
 use Rattle.overlay.specs.declared.ranges.RangeMark.{RangeMark}

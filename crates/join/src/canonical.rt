@@ -78,7 +78,8 @@ impl<'s, 'r> Source<'s, 'r> {
     }
 
     // Whether a source's stream is the canonical one of its difference. Nothing is written: records
-    // that can be united, or metadata in another order, tell.
+    // that can be united, or metadata in another order, tell. (That its bytes mean what it says is asked here,
+    // where it matters: in the type each place that makes a source would have to show it.)
     pub fn is_canonical(self) -> bool
         requires { meaning self.bytes.now ≡ Ok (source_difference self) }
         ensures { result ≡ same (canonical (source_difference self.entry)) self.entry.bytes.now }

@@ -4,7 +4,7 @@ ghost use Rattle.join.specs.Lies.{AllPlaced, all_placed_prop};
 use overlay::{PayloadMark, Sheet};
 
 // What a joined stream is made of: its names, and the parts of its payload, whose marks name places of
-// the two streams.
+// the two streams. (No `Heading` for the names: it has the size too, which is the sheet's.)
 #[derive(Clone, Copy)]
 pub struct JoinedParts<'n, 'e, 'l, 'r> {
     pub from: &'n [u8],

@@ -1,4 +1,4 @@
-ghost use Rattle.std.specs.Prelude.{◌≡◌, ◌≤◌, length, IfOk};
+ghost use Rattle.std.specs.Prelude.{◌≡◌, IfOk};
 ghost use Rattle.fault.specs.Fault.{fault_by, in_entry};
 ghost use Rattle.stream.specs.Difference.{meaning};
 ghost use Rattle.stream.specs.Verdict.{same};

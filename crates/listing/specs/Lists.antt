@@ -1,4 +1,4 @@
--- What the list of a stream is: the text of its ranges, or the stream's fault. Rests on reading and on Text.
+-- What the list of a stream is: the text of its ranges, or the stream's fault. Rests on reading, on Text, on buffers and on faults.
 use Rattle.std.specs.Prelude.{ℕ, List, Ok, Result}
 use Rattle.fault.specs.Fault.{then}
 use Rattle.fault.specs.declared.kinds.Fault.{Fault}

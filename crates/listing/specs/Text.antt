@@ -1,4 +1,4 @@
--- The text of ranges: a first line, and a line for each range. Rests on std's decimal numbers.
+-- The text of ranges: a first line, and a line for each range. Rests on overlay's runs and range marks, and on std's decimal numbers.
 use Rattle.std.specs.Prelude.{ℕ, List, [], ◌∷◌, ◌++◌, codes, decimal}
 use Rattle.overlay.specs.declared.runs.Run.{Run}
 use Rattle.overlay.specs.declared.ranges.RangeMark.{RangeMark}

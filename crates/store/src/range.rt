@@ -3,7 +3,8 @@ ghost use Rattle.store.specs.Stores.{range_answer};
 
 use fault::{Cause, Fault};
 
-// Whether a range ends inside an image of a size. The sum of offset and length may pass 64 bits.
+// Whether a range ends inside an image of a size. The sum of offset and length may pass 64 bits. (Public, for
+// stores that refuse in their own words.)
 pub fn within(offset: u64, length: u64, size: u64) -> bool
     ensures { result ≡ nat_le (offset + length) size }
 {

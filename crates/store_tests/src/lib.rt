@@ -9,7 +9,7 @@ mod tests {
 
     const DONE: [u64; 5] = [0; 5];
 
-    // The five numbers of a refusal, as docs/REFUSALS.md has them. (Numbers, since the rules' own numbers are what is compared.)
+    // The five numbers of a refusal, as docs/REFUSALS.md has them. (Numbers, since these are what is compared.)
     fn numbers(answer: Result<(), Fault>) -> [u64; 5] {
         match answer {
             Ok(()) => DONE,

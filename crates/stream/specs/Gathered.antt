@@ -1,4 +1,5 @@
--- What reading gathers of a stream, record by record: its names by their places, its size and its data records as runs. Rests on the records.
+-- What reading gathers of a stream, record by record: its names by their places, its size and its data records as runs. Rests on
+-- records and the steps over them, on overlay's runs and marks, and on faults.
 use Rattle.std.specs.Prelude.{ℕ, ◌+◌, ◌<◌, List, [], ◌∷◌, ◌++◌, length, take, Ok, Err, Result, slice_set}
 use Rattle.stream.specs.Records.{Content, from_name, to_name, image_size, data_at, zeros_at, encoded}
 use Rattle.stream.specs.Steps.{span}

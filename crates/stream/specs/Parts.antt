@@ -1,4 +1,5 @@
--- Payload marks name bytes of two streams: the difference that runs of them mean. Rests on Meaning.
+-- Payload marks name bytes of two streams: the difference that runs of them mean. Rests on records, on what
+-- they mean, and on overlay's marks, runs and states.
 use Rattle.std.specs.Prelude.{◌≡◌, ℕ, ◌+◌, ◌^◌, ◌≤◌, List, [], ◌∷◌, map, length, take, Ok, Err, Option, Result, slice_index}
 use Rattle.std.specs.Option.{option_map}
 use Rattle.fault.specs.declared.kinds.Fault.{Fault}

@@ -1,5 +1,5 @@
 -- Which lists of records are sound, in one look at the whole list, and that a stream is accepted exactly if it is the stream of one. Rests on
--- the rules record by record (Wellformed).
+-- records, on reading, and on the rules record by record (Wellformed).
 use Rattle.std.specs.Prelude.{◌≡◌, ℕ, suc, ◌+◌, ◌^◌, ◌≤◌, List, [], ◌∷◌, ◌++◌, length, Ok, Err, Result}
 use Rattle.std.specs.List.{AllByRecursion}
 use Rattle.stream.specs.Records.{Content, from_name, to_name, image_size, data_at, zeros_at, encoded_stream, size_in}

@@ -1,4 +1,5 @@
--- Where a reader stands, and what a step of it promises. Rests on the checks of one record.
+-- Where a reader stands, and what a step of it promises. Rests on records, on the states and their rules, on the checks
+-- of one record, on reading and on faults.
 use Rattle.std.specs.Prelude.{◌≡◌, ℕ, ◌+◌, cond, List, length, take, drop, IfOk, Some, None, Ok, Err, Option, Result, nat_lt}
 use Rattle.std.specs.Option.{is_some, unwrap_or}
 use Rattle.stream.specs.Rule.{Seen, State, Meta, Data, late_rule}

@@ -1,4 +1,5 @@
--- What reading a stream promises to the layers above. Rests on soundness and on what runs mean.
+-- What reading a stream promises to the layers above. Rests on records and reading, on sound lists, on what
+-- is gathered and lies at its places, on the stream's parts, on overlay's runs and marks, and on faults.
 use Rattle.std.specs.Prelude.{◌≡◌, ℕ, ◌+◌, ◌≤◌, List, length, take, Ok, Result}
 use Rattle.fault.specs.Fault.{then}
 use Rattle.fault.specs.declared.kinds.Fault.{Fault}

@@ -1,4 +1,4 @@
--- Reading: the records of a stream, or its first fault. Rests on the checks of one record.
+-- Reading: the records of a stream, or its first fault. Rests on records, on the checks of one record and on faults.
 use Rattle.std.specs.Prelude.{ℕ, zero, suc, ◌-◌, Bool, true, false, cond, ◌&&◌, List, [], ◌∷◌, length, take, drop, Ok, Err, Result, ◌==◌, nat_lt}
 use Rattle.stream.specs.Bytes.{field}
 use Rattle.stream.specs.Records.{Content, from_name, to_name, image_size, data_at, zeros_at, header}

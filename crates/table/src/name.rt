@@ -16,6 +16,7 @@ pub struct Name {
 impl Name {
     ghost use Rattle.table.specs.Names.{name_of};
 
+    // The empty name, of the state before the first snapshot; `Default` gives the same.
     pub fn empty() -> Name
         ensures { name_of result ≡ [] }
     {

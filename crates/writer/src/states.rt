@@ -12,7 +12,8 @@ pub struct Opened {
 }
 
 // A stream that has its names and its size, and takes data records: the place of the next record,
-// the image's size, where the last data record ends in the image, and how many there were.
+// the image's size, where the last data record ends in the image, and how many there were. (Three of these are
+// a reader's `Reached`; here the type promises what they keep to, and how far the place can be.)
 #[derive(Drop)]
 pub struct Recording {
     pub(crate) place: usize,

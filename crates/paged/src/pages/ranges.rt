@@ -32,7 +32,7 @@ impl<'a> Pages<'a> {
     }
 
     // Gives back the pool pages of those pages that would have only zeros with these bytes in the range.
-    // (A call of its own: written out in a write, it takes registers from the loop that puts, and a small write takes longer.)
+    // (Never inlined: in a write it would take registers from the loop that puts, and a small write would take longer.)
     #[inline(never)]
     fn clear_blanks(&mut self, offset: usize, bytes: &[u8])
         requires inside { offset + length bytes.now ≤ 256 * places_of self.old.paging }
@@ -94,7 +94,7 @@ impl<'a> Pages<'a> {
     }
 
     // How many filled pages there would be with these bytes in the range.
-    // (A call of its own: written out in a write, it takes registers from the loop that puts, and a small write takes longer.)
+    // (Never inlined: in a write it would take registers from the loop that puts, and a small write would take longer.)
     #[inline(never)]
     fn filled_with(&self, offset: usize, bytes: &[u8]) -> usize
         requires inside { offset + length bytes.now ≤ 256 * places_of self.now.paging }
