@@ -18,9 +18,10 @@ mod tests;
 
 pub use images::{Memory, Pages, Room, contents};
 
-// The first six words of a line: one that is missing is empty, and those past the last are left out. (Six,
-// also where a step has four: tried with the number as a const parameter, but the kit's check of references
-// covers no array of them then.)
+// The first six words of a line: one that is missing is empty, and those past the last are left out. (No
+// clause says so, a test does: nothing is known of what a closure that goes on in an iterator tells. Six, also
+// where a step has four: tried with the number as a const parameter, but the kit's check of references covers
+// no array of them then.)
 pub fn words_of(line: &str) -> [&str; 6] {
     let mut words = line.split(' ');
     [(); 6].map(|()| words.next().unwrap_or(""))

@@ -1,5 +1,5 @@
-// What no clause says: that with memory at hand nothing gives up.
-use super::{Memory, Pages, contents, decoded, encoded, told};
+// What no clause says: that with memory at hand nothing gives up, and which words a line has.
+use super::{Memory, Pages, contents, decoded, encoded, told, words_of};
 use fault::{Cause, Fault};
 use std::test::Fail;
 
@@ -27,4 +27,12 @@ fn words_are_made(rt: HostRuntime) -> Result<(), Fail> {
     let refused: Result<u64, Fault> = Err(Fault::new(Cause::ShortBuffer, 9));
     assert_eq!(rt; told(heap, refused)?.as_str(), "14 1 9 0 0");
     Ok(())
+}
+
+// A word that is missing is empty, also between two spaces; the seventh is left out.
+#[test]
+fn words_of_a_line(rt: HostRuntime) {
+    assert_eq!(rt; words_of("join 3 - 0a"), ["join", "3", "-", "0a", "", ""]);
+    assert_eq!(rt; words_of("a  c d e f g"), ["a", "", "c", "d", "e", "f"]);
+    assert_eq!(rt; words_of(""), ["", "", "", "", "", ""]);
 }
