@@ -16,10 +16,10 @@ measure() {
 [ $# -gt 0 ] || set -- store stream shelf
 for name; do
     case $name in
-    store) measure store store_bench ;;
+    store) measure store benchmarks ;;
     # with Ceph's `rbd`, where it is installed, the join of files is compared with it in this folder
     stream) if command -v rbd >/dev/null; then measure stream lovgwarzh_c "$work"; else measure stream lovgwarzh_c; fi ;;
-    shelf) measure shelf shelf_bench ;;
+    shelf) measure shelf benchmarks ;;
     *) echo "no measurement is called $name" >&2; exit 1 ;;
     esac
 done

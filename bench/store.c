@@ -3,10 +3,19 @@
  * Each time is the best of several rounds. The work of one store call is found by taking away what the same call costs without it. */
 #include "common.h"
 
-uint64_t bench_flat(uint8_t *memory, size_t room, uint64_t size, const uint8_t *bytes, size_t n, const uint64_t *offsets, size_t count,
-                    uint64_t zero, uint64_t grow);
-uint64_t bench_paged(uint32_t *map, size_t places, uint8_t *pool, size_t room, uint64_t size, const uint8_t *bytes, size_t n,
-                     const uint64_t *offsets, size_t count, uint64_t zero, uint64_t grow);
+/* What a store is asked to do: to write the same n bytes at each of the offsets, and to zero the whole image and to cut it to nothing and let it
+ * grow again, where the flags are not 0. */
+struct job {
+    uint64_t size;
+    const uint8_t *bytes;
+    size_t n;
+    const uint64_t *offsets;
+    size_t count;
+    uint64_t zero, grow;
+};
+
+uint64_t bench_flat(uint8_t *memory, size_t room, const struct job *job);
+uint64_t bench_paged(uint32_t *map, size_t places, uint8_t *pool, size_t room, const struct job *job);
 
 enum { PAGES = 65535, MANY = 60 };
 static uint8_t *memory, *pool, *other, *bytes;
@@ -26,16 +35,18 @@ static void place(size_t count, size_t n, uint64_t size, int anywhere) {
         offsets[i] = n * (anywhere ? next() % slots : i % slots);
 }
 
-struct job { int paged; uint64_t size; size_t n, count; uint64_t zero, grow; };
-
-static uint64_t work(struct job j) {
-    return j.paged ? bench_paged(map, PAGES, pool, (size_t)PAGES * 256, j.size, bytes, j.n, offsets, j.count, j.zero, j.grow)
-                   : bench_flat(memory, (size_t)PAGES * 256, j.size, bytes, j.n, offsets, j.count, j.zero, j.grow);
+static struct job writing(uint64_t size, size_t n, size_t count) {
+    struct job j = {size, bytes, n, offsets, count, 0, 0};
+    return j;
 }
 
-static double run_rounds(struct job j, int rounds) {
+static uint64_t work(int paged, const struct job *j) {
+    return paged ? bench_paged(map, PAGES, pool, (size_t)PAGES * 256, j) : bench_flat(memory, (size_t)PAGES * 256, j);
+}
+
+static double run_rounds(int paged, struct job j, int rounds) {
     uint64_t done = 0;
-    BEST_OF(best, rounds, done = work(j));
+    BEST_OF(best, rounds, done = work(paged, &j));
     if (done != j.count + (j.zero != 0) + 2 * (j.grow != 0)) {
         fprintf(stderr, "%llu calls were accepted\n", (unsigned long long)done);
         exit(1);
@@ -43,7 +54,7 @@ static double run_rounds(struct job j, int rounds) {
     return best;
 }
 
-static double run(struct job j) { return run_rounds(j, ROUNDS); }
+static double run(int paged, struct job j) { return run_rounds(paged, j, ROUNDS); }
 
 static void copy_all(size_t n, size_t count) {
     for (size_t i = 0; i < count; i++) {
@@ -56,9 +67,7 @@ static void writes(const char *what, uint64_t size, size_t n, size_t count, int 
     place(count, n, size, anywhere);
     BEST(base, copy_all(n, count));
     for (int paged = 0; paged < 2; paged++) {
-        struct job j = {paged, size, n, count, 0, 0}, none = j;
-        none.count = 0;
-        double t = run(j) - run(none);
+        double t = run(paged, writing(size, n, count)) - run(paged, writing(size, n, 0));
         printf("%-6s %-28s %10.2f ns a write %8.2f times memcpy\n", paged ? "paged" : "flat", what, t / count * 1e9, t / base);
     }
 }
@@ -81,10 +90,10 @@ int main(void) {
     BEST(base, memset(other, 0, whole));
     for (int paged = 0; paged < 2; paged++) {
         place(whole / 65536, 65536, whole, 0);
-        struct job full = {paged, whole, 65536, whole / 65536, 0, 0}, zero = full, grow = full;
+        struct job full = writing(whole, 65536, whole / 65536), zero = full, grow = full;
         zero.zero = 1, grow.grow = 1;
         /* a difference of two long times: many rounds, to find the best of both */
-        double fill = run_rounds(full, MANY), zeroed = run_rounds(zero, MANY), grown = run_rounds(grow, MANY);
+        double fill = run_rounds(paged, full, MANY), zeroed = run_rounds(paged, zero, MANY), grown = run_rounds(paged, grow, MANY);
         printf("%-6s %-28s %10.2f us %16.2f times memset\n", paged ? "paged" : "flat", "zero the whole image", (zeroed - fill) * 1e6, (zeroed - fill) / base);
         printf("%-6s %-28s %10.2f us %16.2f times memset\n", paged ? "paged" : "flat", "cut to nothing and regrow", (grown - fill) * 1e6, (grown - fill) / base);
     }

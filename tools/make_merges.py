@@ -1,5 +1,5 @@
 #!/usr/bin/env python3
-"""Makes crates/vectors/data/merges.txt: pairs of streams, and what Ceph's own tool joins them to.
+"""Makes crates/stream_cases/data/merges.txt: pairs of streams, and what Ceph's own tool joins them to.
 
 Each line has the earlier stream, the later one and the output of `rbd merge-diff`, in hexadecimal. Needs the command `rbd` (Debian's
 package ceph-common); it works offline, and its warning about a missing configuration does not matter. Pairs that come from a chain of three
@@ -12,7 +12,7 @@ from pathlib import Path
 from random_records import rising_records
 from reference import LIMIT, stream, write, zero
 
-OUT = Path(__file__).resolve().parent.parent / "crates" / "vectors" / "data" / "merges.txt"
+OUT = Path(__file__).resolve().parent.parent / "crates" / "stream_cases" / "data" / "merges.txt"
 
 
 def merged(first, second):

@@ -1,7 +1,7 @@
 #!/usr/bin/env python3
-"""Makes the series of crates/series: its stdin, and the stdout that it must write, by the reference of tools/shelf_reference.py.
+"""Makes the series of crates/shelf_cases: its stdin, and the stdout that it must write, by the reference of tools/shelf_reference.py.
 
-Run from anywhere; the result is the same each time. crates/series/src/main.rt tells what the lines are. How often each call came to each
+Run from anywhere; the result is the same each time. crates/shelf_cases/src/main.rt tells what the lines are. How often each call came to each
 end goes to stderr; an end that never came is an error."""
 import random
 import sys
@@ -11,7 +11,7 @@ import reference as ref
 from reference import HEADER, LIMIT, name_record, size_record, stream, write, zero
 from series_record import ALL, Book, Series, counted, wanted
 
-HOME = Path(__file__).resolve().parent.parent / "crates" / "series"
+HOME = Path(__file__).resolve().parent.parent / "crates" / "shelf_cases"
 
 
 # series that were thought of

@@ -1,5 +1,5 @@
 #!/usr/bin/env python3
-"""Makes the cases of crates/vectors: its stdin, and the stdout that it must write, by the reference of tools/reference.py.
+"""Makes the cases of crates/stream_cases: its stdin, and the stdout that it must write, by the reference of tools/reference.py.
 
 Run from anywhere; the result is the same each time."""
 import random
@@ -8,7 +8,7 @@ from pathlib import Path
 import reference as ref
 from reference import HEADER, LIMIT, data_record, name_record, size_record, stream, write, zero
 
-HOME = Path(__file__).resolve().parent.parent / "crates" / "vectors"
+HOME = Path(__file__).resolve().parent.parent / "crates" / "stream_cases"
 FILL = 0xAA
 
 

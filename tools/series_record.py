@@ -1,4 +1,4 @@
-"""A series of calls on a shelf as it is recorded: what crates/series is asked, line by line, and what it must tell, by tools/shelf_reference.py.
+"""A series of calls on a shelf as it is recorded: what crates/shelf_cases is asked, line by line, and what it must tell, by tools/shelf_reference.py.
 
 After every call of a series without pokes, the image with the shelf's streams applied in order has to be the first image with all accepted
 streams applied in order."""

@@ -1,4 +1,5 @@
--- The parts that begin inside a range lie side by side, behind those of the ranges before it. Rests on the steps and on rising runs.
+-- The parts that begin inside a range lie side by side, behind those of the ranges before it. Rests
+-- on the steps and on rising runs.
 use Rattle.std.proofs.Common.{◌≡◌, ℕ, zero, suc, ◌+◌, ◌<◌, ◌≤◌, ◌&&◌, ltb, leb, List, [], ◌∷◌, ◌++◌, map, length, get_or, take, drop, sym, refl, ap, ◌∙◌, ap₂, inl, inr, one-add, arith}
 use Rattle.std.specs.List.{prefix_len}
 use Rattle.std.proofs.lemmas.List.{drop_more}
@@ -8,20 +9,20 @@ use Rattle.overlay.specs.declared.ranges.RangeMark.{RangeMark}
 use Rattle.overlay.specs.declared.payloads.PayloadMark.{PayloadMark}
 use Rattle.overlay.specs.declared.payloads.PayloadMark.TheVariants.{Zeroed, Written}
 use Rattle.overlay.specs.declared.payloads.Side.{Side}
-use Rattle.overlay.specs.Runs.{ends, Rising}
+use Rattle.overlay.specs.Runs.{run_end, Rising}
 use Rattle.overlay.proofs.Painted.{rising_lower, rising_drop}
 use Rattle.stream.specs.Records.{Content, offset_of}
-use Rattle.stream.specs.Places.{held, held_by}
+use Rattle.stream.specs.Places.{run_record, run_record_by}
 use Rattle.stream.specs.Parts.{PayloadIn, PayloadsIn}
-use Rattle.apply.specs.Steps.{numbered, handed, begun_in, steps_from}
-use Rattle.apply.specs.Read.{before}
+use Rattle.apply.specs.Steps.{with_number, range_records, begun_in, steps_from}
+use Rattle.apply.specs.Read.{begins_before, parts_before, parts_from}
 
-begins_by : (xs : List ℕ) (o n : ℕ) (m : PayloadMark) → offset_of (held_by xs o n m) ≡ o
+begins_by : (xs : List ℕ) (o n : ℕ) (m : PayloadMark) → offset_of (run_record_by xs o n m) ≡ o
 begins_by xs o n Zeroed = refl
 begins_by xs o n (Written side place) = refl
 
 -- a part begins where its record does
-begins_held : (xs : List ℕ) (r : Run PayloadMark) → offset_of (held xs r) ≡ r.offset
+begins_held : (xs : List ℕ) (r : Run PayloadMark) → offset_of (run_record xs r) ≡ r.offset
 begins_held xs r = begins_by xs r.offset r.length r.mark
 
 -- a record that begins inside a range, before it, and behind it
@@ -41,75 +42,72 @@ module _ (offset n : ℕ) (c : Content) (cs : List Content) where
 
 -- how many parts at the front begin before a position
 module _ (p : ℕ) (r : Run PayloadMark) (rs : List (Run PayloadMark)) where
-  leading_yes : r.offset < p → prefix_len (before p) (r ∷ rs) ≡ suc (prefix_len (before p) rs)
-  leading_yes h = cond-true (ltb r.offset p) _ _ (lt-ltb r.offset p h) ∙ one-add (prefix_len (before p) rs)
+  leading_yes : r.offset < p → prefix_len (begins_before p) (r ∷ rs) ≡ suc (prefix_len (begins_before p) rs)
+  leading_yes h = cond-true (ltb r.offset p) _ _ (lt-ltb r.offset p h) ∙ one-add (prefix_len (begins_before p) rs)
 
-  leading_no : p ≤ r.offset → prefix_len (before p) (r ∷ rs) ≡ 0
+  leading_no : p ≤ r.offset → prefix_len (begins_before p) (r ∷ rs) ≡ 0
   leading_no h = cond-false (ltb r.offset p) _ _ (le-ltb r.offset p h)
 
--- the parts from the first on that does not begin before a position
-abbrev pub since : ℕ → List (Run PayloadMark) → List (Run PayloadMark)
-since p rs = drop (prefix_len (before p) rs) rs
-
-since_yes : (p : ℕ) (r : Run PayloadMark) (rs : List (Run PayloadMark)) → r.offset < p → since p (r ∷ rs) ≡ since p rs
+-- the first part begins before a position, or not
+since_yes : (p : ℕ) (r : Run PayloadMark) (rs : List (Run PayloadMark)) → r.offset < p → parts_from p (r ∷ rs) ≡ parts_from p rs
 since_yes p r rs h = ap (λ k. drop k (r ∷ rs)) (leading_yes p r rs h)
 
-since_no : (p : ℕ) (r : Run PayloadMark) (rs : List (Run PayloadMark)) → p ≤ r.offset → since p (r ∷ rs) ≡ r ∷ rs
+since_no : (p : ℕ) (r : Run PayloadMark) (rs : List (Run PayloadMark)) → p ≤ r.offset → parts_from p (r ∷ rs) ≡ r ∷ rs
 since_no p r rs h = ap (λ k. drop k (r ∷ rs)) (leading_no p r rs h)
 
 -- parts that begin before a range say nothing of it
-begun_since : (xs : List ℕ) (p offset n : ℕ) (rs : List (Run PayloadMark)) → p ≤ offset → begun_in offset n (map (held xs) (since p rs)) ≡ begun_in offset n (map (held xs) rs)
+begun_since : (xs : List ℕ) (p offset n : ℕ) (rs : List (Run PayloadMark)) → p ≤ offset → begun_in offset n (map (run_record xs) (parts_from p rs)) ≡ begun_in offset n (map (run_record xs) rs)
 begun_since xs p offset n [] l = refl
 begun_since xs p offset n (r ∷ rs) l =
     elim (cases_lt r.offset p) [
-      | inl h ↦ ap (λ ys. begun_in offset n (map (held xs) ys)) (since_yes p r rs h) ∙ begun_since xs p offset n rs l ∙ sym (begun_early offset n (held xs r) (map (held xs) rs) (let e = begins_held xs r in omega arith))
-      | inr h ↦ ap (λ ys. begun_in offset n (map (held xs) ys)) (since_no p r rs h)
+      | inl h ↦ ap (λ ys. begun_in offset n (map (run_record xs) ys)) (since_yes p r rs h) ∙ begun_since xs p offset n rs l ∙ sym (begun_early offset n (run_record xs r) (map (run_record xs) rs) (let e = begins_held xs r in omega arith))
+      | inr h ↦ ap (λ ys. begun_in offset n (map (run_record xs) ys)) (since_no p r rs h)
     ]
 
 -- nor of the ranges that follow
 pub steps_since : (xs : List ℕ) (p b i : ℕ) (parts : List (Run PayloadMark)) (rs : List (Run RangeMark)) → Rising p rs b
-    → steps_from i (map (held xs) (since p parts)) rs ≡ steps_from i (map (held xs) parts) rs
+    → steps_from i (map (run_record xs) (parts_from p parts)) rs ≡ steps_from i (map (run_record xs) parts) rs
 steps_since xs p b i parts [] h = refl
 steps_since xs p b i parts (r ∷ rs) h =
-    ap₂ (λ cs ss. numbered i (handed r.mark r.offset r.length cs) ++ ss)
+    ap₂ (λ cs ss. with_number i (range_records r.mark r.offset r.length cs) ++ ss)
     (begun_since xs p r.offset r.length parts h.0)
-    (steps_since xs p b (i + 1) parts rs (rising_lower (ends r) p b rs h.2 (let a = h.0 in omega arith)))
+    (steps_since xs p b (i + 1) parts rs (rising_lower (run_end r) p b rs h.2 (let a = h.0 in omega arith)))
 
 -- none begins inside a range where the parts begin behind it
-begun_none : (xs : List ℕ) (offset n a b : ℕ) (rs : List (Run PayloadMark)) → Rising a rs b → offset + n ≤ a → begun_in offset n (map (held xs) rs) ≡ []
+begun_none : (xs : List ℕ) (offset n a b : ℕ) (rs : List (Run PayloadMark)) → Rising a rs b → offset + n ≤ a → begun_in offset n (map (run_record xs) rs) ≡ []
 begun_none xs offset n a b [] h l = refl
 begun_none xs offset n a b (r ∷ rs) h l =
-    begun_late offset n (held xs r) (map (held xs) rs) (let g = h.0 in let e = begins_held xs r in omega arith) ∙ begun_none xs offset n (ends r) b rs h.2 (let g = h.0 in omega arith)
+    begun_late offset n (run_record xs r) (map (run_record xs) rs) (let g = h.0 in let e = begins_held xs r in omega arith) ∙ begun_none xs offset n (run_end r) b rs h.2 (let g = h.0 in omega arith)
 
 -- where no part begins before a range, those that begin inside it are the first ones
 begun_front : (xs : List ℕ) (offset n a b : ℕ) (rs : List (Run PayloadMark)) → Rising a rs b → offset ≤ a
-    → begun_in offset n (map (held xs) rs) ≡ map (held xs) (take (prefix_len (before (offset + n)) rs) rs)
+    → begun_in offset n (map (run_record xs) rs) ≡ map (run_record xs) (take (prefix_len (begins_before (offset + n)) rs) rs)
 begun_front xs offset n a b [] h l = refl
 begun_front xs offset n a b (r ∷ rs) h l =
     elim (cases_lt r.offset (offset + n)) [
       | inl k ↦
-          begun_yes offset n (held xs r) (map (held xs) rs) (let g = h.0 in let e = begins_held xs r in omega arith) (let e = begins_held xs r in omega arith)
-          ∙ ap (λ cs. held xs r ∷ cs) (begun_front xs offset n (ends r) b rs h.2 (let g = h.0 in omega arith))
-          ∙ sym (ap (λ j. map (held xs) (take j (r ∷ rs))) (leading_yes (offset + n) r rs k))
+          begun_yes offset n (run_record xs r) (map (run_record xs) rs) (let g = h.0 in let e = begins_held xs r in omega arith) (let e = begins_held xs r in omega arith)
+          ∙ ap (λ cs. run_record xs r ∷ cs) (begun_front xs offset n (run_end r) b rs h.2 (let g = h.0 in omega arith))
+          ∙ sym (ap (λ j. map (run_record xs) (take j (r ∷ rs))) (leading_yes (offset + n) r rs k))
       | inr k ↦
-          begun_late offset n (held xs r) (map (held xs) rs) (let e = begins_held xs r in omega arith)
-          ∙ begun_none xs offset n (ends r) b rs h.2 (omega arith)
-          ∙ sym (ap (λ j. map (held xs) (take j (r ∷ rs))) (leading_no (offset + n) r rs k))
+          begun_late offset n (run_record xs r) (map (run_record xs) rs) (let e = begins_held xs r in omega arith)
+          ∙ begun_none xs offset n (run_end r) b rs h.2 (omega arith)
+          ∙ sym (ap (λ j. map (run_record xs) (take j (r ∷ rs))) (leading_no (offset + n) r rs k))
     ]
 
 -- the parts that begin inside a range
 pub begun_are : (xs : List ℕ) (offset n a b : ℕ) (rs : List (Run PayloadMark)) → Rising a rs b
-    → begun_in offset n (map (held xs) rs) ≡ map (held xs) (take (prefix_len (before (offset + n)) (since offset rs)) (since offset rs))
+    → begun_in offset n (map (run_record xs) rs) ≡ map (run_record xs) (parts_before (offset + n) (parts_from offset rs))
 begun_are xs offset n a b [] h = refl
 begun_are xs offset n a b (r ∷ rs) h =
     elim (cases_lt r.offset offset) [
       | inl k ↦
-          begun_early offset n (held xs r) (map (held xs) rs) (let e = begins_held xs r in omega arith)
-          ∙ begun_are xs offset n (ends r) b rs h.2
-          ∙ sym (ap (λ ys. map (held xs) (take (prefix_len (before (offset + n)) ys) ys)) (since_yes offset r rs k))
+          begun_early offset n (run_record xs r) (map (run_record xs) rs) (let e = begins_held xs r in omega arith)
+          ∙ begun_are xs offset n (run_end r) b rs h.2
+          ∙ sym (ap (λ ys. map (run_record xs) (parts_before (offset + n) ys)) (since_yes offset r rs k))
       | inr k ↦
           begun_front xs offset n r.offset b (r ∷ rs) (omega arith, h.1, h.2) k
-          ∙ sym (ap (λ ys. map (held xs) (take (prefix_len (before (offset + n)) ys) ys)) (since_no offset r rs k))
+          ∙ sym (ap (λ ys. map (run_record xs) (parts_before (offset + n) ys)) (since_no offset r rs k))
     ]
 
 -- the range at i, and those behind it
@@ -133,22 +131,23 @@ payloads_take side xs zero rs h = tt
 payloads_take side xs (suc n) [] h = tt
 payloads_take side xs (suc n) (r ∷ rs) h = (h.0, payloads_take side xs n rs h.1)
 
--- the steps of the range at i are those of the parts that begin inside it, and those behind it are of the parts behind
-pub window_steps : (bytes : List ℕ) (left : List (Run PayloadMark)) (b n : ℕ) (rs : List (Run RangeMark)) (i : ℕ) (d : Run RangeMark) (size : ℕ) (begun inside behind : List (Run PayloadMark))
-    → i < length rs → Rising 0 left b → Rising 0 rs size
-    → begun ≡ since (get_or rs i d).offset left → inside ≡ take (prefix_len (before (ends (get_or rs i d))) begun) begun → behind ≡ since (ends (get_or rs i d)) begun
-    → steps_from n (map (held bytes) left) (drop i rs)
-    ≡ numbered n (handed (get_or rs i d).mark (get_or rs i d).offset (get_or rs i d).length (map (held bytes) inside))
-    ++ steps_from (n + 1) (map (held bytes) behind) (drop (i + 1) rs)
-window_steps bytes left b n rs i d size begun inside behind l rising rise from here end =
+-- the steps of the range at i are those of the parts that begin inside it, and those of the ranges
+-- after it are of the parts after it
+pub window_steps : (bytes own : List ℕ) (left : List (Run PayloadMark)) (b n : ℕ) (rs : List (Run RangeMark)) (i : ℕ) (d : Run RangeMark) (size stop : ℕ) (begun inside behind : List (Run PayloadMark))
+    → own ≡ bytes → i < length rs → Rising 0 left b → Rising 0 rs size → stop ≡ run_end (get_or rs i d)
+    → begun ≡ parts_from (get_or rs i d).offset left → inside ≡ parts_before stop begun → behind ≡ parts_from stop begun
+    → steps_from n (map (run_record bytes) left) (drop i rs)
+    ≡ with_number n (range_records (get_or rs i d).mark (get_or rs i d).offset (get_or rs i d).length (map (run_record own) inside))
+    ++ steps_from (n + 1) (map (run_record bytes) behind) (drop (i + 1) rs)
+window_steps bytes own left b n rs i d size stop begun inside behind same l rising rise ends from here end =
     let r = get_or rs i d in
     let rest = drop (i + 1) rs in
     let later = (rising_at rs i d size l rise).2 in
-    let cut : inside ≡ take (prefix_len (before (ends r)) (since r.offset left)) (since r.offset left) = here ∙ ap (λ ys. take (prefix_len (before (ends r)) ys) ys) from in
-    let on : behind ≡ since (ends r) (since r.offset left) = end ∙ ap (since (ends r)) from in
-    ap (steps_from n (map (held bytes) left)) (drop_more rs i d l)
-    ∙ ap₂ (λ cs ss. numbered n (handed r.mark r.offset r.length cs) ++ ss)
-    (begun_are bytes r.offset r.length 0 b left rising ∙ ap (map (held bytes)) (sym cut))
-    (sym (steps_since bytes r.offset size (n + 1) left rest (rising_lower (ends r) r.offset size rest later (omega arith)))
-    ∙ sym (steps_since bytes (ends r) size (n + 1) (since r.offset left) rest later)
-    ∙ ap (λ ys. steps_from (n + 1) (map (held bytes) ys) rest) (sym on))
+    let cut : inside ≡ parts_before (run_end r) (parts_from r.offset left) = here ∙ ap₂ parts_before ends from in
+    let on : behind ≡ parts_from (run_end r) (parts_from r.offset left) = end ∙ ap₂ parts_from ends from in
+    ap (steps_from n (map (run_record bytes) left)) (drop_more rs i d l)
+    ∙ ap₂ (λ cs ss. with_number n (range_records r.mark r.offset r.length cs) ++ ss)
+    (begun_are bytes r.offset r.length 0 b left rising ∙ sym (ap₂ (λ xs ps. map (run_record xs) ps) same cut))
+    (sym (steps_since bytes r.offset size (n + 1) left rest (rising_lower (run_end r) r.offset size rest later (omega arith)))
+    ∙ sym (steps_since bytes (run_end r) size (n + 1) (parts_from r.offset left) rest later)
+    ∙ ap (λ ys. steps_from (n + 1) (map (run_record bytes) ys) rest) (sym on))

@@ -1,4 +1,5 @@
--- The laws of applying a sound list of records. Rests on what its steps make of an image, and on how they are refused.
+-- The laws of applying a sound list of records. Rests on what its steps make of an image, and on
+-- how they are refused.
 use Rattle.std.proofs.Common.{◌≡◌, ℕ, ◌<◌, List, get_or, None, sym, refl, ap, ◌∙◌, ap₂, inl, inr, arith}
 use Rattle.std.specs.Option.{option_map}
 use Rattle.std.specs.List.{AllByRecursion}
@@ -6,12 +7,12 @@ use Rattle.std.proofs.lemmas.List.{ext_get_or}
 use Rattle.std.proofs.lemmas.Bool.{cases_Bool}
 use Rattle.overlay.specs.Marks.{range_moves}
 use Rattle.overlay.specs.Runs.{at}
-use Rattle.store.specs.Images.{resized}
+use Rattle.store.specs.Images.{image_of_size}
 use Rattle.store.specs.Stores.{Images, done}
 use Rattle.store.proofs.ImageLaws.{length_resized, getD_resized}
 use Rattle.stream.specs.Records.{Content, image_size, data_of, size_in}
-use Rattle.stream.specs.Meaning.{mark_of, laid, cells, ranges}
-use Rattle.stream.specs.Difference.{byte_over, applied}
+use Rattle.stream.specs.Meaning.{mark_of, records_state, cells, ranges}
+use Rattle.stream.specs.Difference.{byte_over, image_after}
 use Rattle.stream.specs.Sound.{Sound}
 use Rattle.apply.specs.Steps.{Step, steps_from, steps}
 use Rattle.apply.specs.Applies.{apply_records}
@@ -32,31 +33,31 @@ module _ (cs : List Content) (s : Sound cs) where
   later_fit = steps_fit (size_in 0 cs) (data_of cs) (datas_fit (data_of cs) (size_in 0 cs) 0 (sound_rising cs s)) (ranges (cells cs)) 0 1 (ranges_rise cs (sound_small cs s))
 
   -- below the size they give a position what the records give it
-  later_laid : (p : ℕ) → p < size_in 0 cs → laid (records_of (later cs)) p ≡ laid cs p
+  later_laid : (p : ℕ) → p < size_in 0 cs → records_state (records_of (later cs)) p ≡ records_state cs p
   later_laid p l =
       let n = size_in 0 cs in
       let ds = data_of cs in
       let rs = ranges (cells cs) in
       let small = sound_small cs s in
       let rise = sound_rising cs s in
-      let kind : (q : ℕ) → q < n → at range_moves rs q ≡ option_map mark_of (laid ds q) = λ q k. ranges_kind cs small q k ∙ ap (option_map mark_of) (laid_data cs q) in
+      let kind : (q : ℕ) → q < n → at range_moves rs q ≡ option_map mark_of (records_state ds q) = λ q k. ranges_kind cs small q k ∙ ap (option_map mark_of) (laid_data cs q) in
       let beside = all_beside rs n (ranges_rise cs small) (ranges_apart cs small) (spans ds) 0 (spans_rise ds n 0 (omega arith) rise) (λ q _ k. kind q k ∙ spans_kind ds n 0 q (omega arith) rise) in
       steps_laid p n ds 0 rise rs n 1 (ranges_rise cs small) beside (kind p l) ∙ sym (laid_data cs p)
 
   pub steps_called : (image : List ℕ) → AllCalled image (steps cs)
   unfolding steps
-  steps_called image = (λ holds. refl, all_called (size_in 0 cs) (later cs) (resized image (size_in 0 cs)) (length_resized image (size_in 0 cs)) later_fit)
+  steps_called image = (λ holds. refl, all_called (size_in 0 cs) (later cs) (image_of_size image (size_in 0 cs)) (length_resized image (size_in 0 cs)) later_fit)
 
   -- all steps make of an image what the difference makes of it
-  pub steps_make : (image : List ℕ) → made_by_all (steps cs) image ≡ applied (cells cs) image
+  pub steps_make : (image : List ℕ) → made_by_all (steps cs) image ≡ image_after (cells cs) image
   unfolding steps
   steps_make image =
       let n = size_in 0 cs in
-      let start = resized image n in
+      let start = image_of_size image n in
       let long = length_resized image n in
       let whole = all_length n (later cs) start long later_fit in
       let size = cells_length cs in
-      ext_get_or 0 (made_by_all (later cs) start) (applied (cells cs) image) (whole ∙ sym size ∙ sym (applied_length (cells cs) image))
+      ext_get_or 0 (made_by_all (later cs) start) (image_after (cells cs) image) (whole ∙ sym size ∙ sym (applied_length (cells cs) image))
       (λ p l.
       let k : p < n = omega arith in
       all_get_d n (later cs) start p long later_fit
@@ -71,11 +72,11 @@ module _ (cs : List Content) (s : Sound cs) where
       let size = cells_length cs in
       let low : p < n = omega arith in
       let first : Step = (0, image_size n) in
-      let nothing : laid (records_of (later cs)) p ≡ None = later_laid p low ∙ sym (cells_getD cs p low) ∙ k in
-      elim (cases_Bool (holds (resized image n))) [
+      let nothing : records_state (records_of (later cs)) p ≡ None = later_laid p low ∙ sym (cells_getD cs p low) ∙ k in
+      elim (cases_Bool (holds (image_of_size image n))) [
         | inl y ↦
             ap (λ o. get_or o.1 p 0) (step_taken holds image first (later cs) (λ holds. refl) y)
-            ∙ outcome_getD n holds (later cs) (resized image n) p (length_resized image n) later_fit nothing
+            ∙ outcome_getD n holds (later cs) (image_of_size image n) p (length_resized image n) later_fit nothing
             ∙ getD_resized image n p low
         | inr y ↦ ap (λ o. get_or o.1 p 0) (step_refused holds image first (later cs) (λ holds. refl) y)
       ]
@@ -84,7 +85,7 @@ pub applies_exactly : AppliesExactly
 applies_exactly holds image cs s =
     let called = steps_called cs s image in
     let made = steps_make cs s image in
-    let full : AllHeld holds image (steps cs) → apply_records holds image cs ≡ done (applied (cells cs) image) = λ h. all_taken holds image (steps cs) called h ∙ ap done made in
+    let full : AllHeld holds image (steps cs) → apply_records holds image cs ≡ done (image_after (cells cs) image) = λ h. all_taken holds image (steps cs) called h ∙ ap done made in
     record {
       full = full;
       held = λ after e. taken_held holds image (steps cs) after called e;

@@ -1,3 +1,4 @@
+pub mod Inside
 pub mod Ranged
 pub mod Turns
 pub mod Cursors

@@ -1,19 +1,20 @@
--- Steps whose ranges lie in the image are refused exactly where the set does not have the result. Rests on the outcomes of a store's calls.
+-- Steps whose ranges lie in the image are refused exactly where the set does not have the result.
+-- Rests on the outcomes of a store's calls.
 use Rattle.std.proofs.Common.{◌≡◌, ℕ, true, false, List, [], ◌∷◌, ◌++◌, Err, sym, refl, ap, ◌∙◌, subst, inl, inr, arith}
 use Rattle.std.proofs.lemmas.Bool.{cases_Bool}
 use Rattle.fault.specs.Fault.{fault, in_record}
 use Rattle.fault.specs.declared.kinds.Fault.{Fault}
 use Rattle.fault.specs.declared.kinds.Cause.TheVariants.{NoRoom}
-use Rattle.store.specs.Stores.{Images, Outcome, done, and_then, if_held}
+use Rattle.store.specs.Stores.{Images, Outcome, done, outcome_and_then, if_held}
 use Rattle.store.proofs.Outcomes.{held, unheld}
 use Rattle.stream.specs.Records.{Content}
 use Rattle.apply.specs.Steps.{Step}
 use Rattle.apply.specs.Applies.{call_outcome, outcome_in_record, apply_steps}
-use Rattle.apply.specs.Laws.{made_by, made_by_all, AllHeld, told_place, Stopped}
+use Rattle.apply.specs.Laws.{made_by, made_by_all, AllHeld, fault_place, Stopped}
 
 -- a call that is refused only where the set does not have its result
 abbrev pub Called : List ℕ → Content → Type 0
-Called image c = (holds : Images) → call_outcome holds image c ≡ if_held holds (told_place c) image (made_by c image)
+Called image c = (holds : Images) → call_outcome holds image c ≡ if_held holds (fault_place c) image (made_by c image)
 
 -- such calls, step after step
 abbrev pub AllCalled : List ℕ → List Step → Type 0
@@ -23,13 +24,13 @@ AllCalled image (s ∷ ss) = Called image s.1 × AllCalled (made_by s.1 image) s
 -- a step that is taken, and one that is refused
 module _ (holds : Images) (image : List ℕ) (s : Step) (ss : List Step) (called : Called image s.1) where
   abbrev next : Outcome → Outcome
-  next o = and_then (outcome_in_record s.0 o) (λ b. apply_steps holds b ss)
+  next o = outcome_and_then (outcome_in_record s.0 o) (λ b. apply_steps holds b ss)
 
   pub step_taken : holds (made_by s.1 image) ≡ true → apply_steps holds image (s ∷ ss) ≡ apply_steps holds (made_by s.1 image) ss
-  step_taken h = ap next (called holds ∙ held holds (told_place s.1) image (made_by s.1 image) h)
+  step_taken h = ap next (called holds ∙ held holds (fault_place s.1) image (made_by s.1 image) h)
 
-  pub step_refused : holds (made_by s.1 image) ≡ false → apply_steps holds image (s ∷ ss) ≡ (Err (in_record s.0 (fault NoRoom (told_place s.1))), image)
-  step_refused h = ap next (called holds ∙ unheld holds (told_place s.1) image (made_by s.1 image) h)
+  pub step_refused : holds (made_by s.1 image) ≡ false → apply_steps holds image (s ∷ ss) ≡ (Err (in_record s.0 (fault NoRoom (fault_place s.1))), image)
+  step_refused h = ap next (called holds ∙ unheld holds (fault_place s.1) image (made_by s.1 image) h)
 
 no_done : {C : Type 0} (f : Fault) (b after : List ℕ) → ◌≡◌ {A = Outcome} (Err f, b) (done after) → C
 no_done f b after e = let g = ap (λ o. o.0) e in let z : ◌≡◌ {A = ℕ} 0 1 = cc in absurd (omega arith)
@@ -86,7 +87,7 @@ module _ (holds : Images) where
 
   stops_behind : (image : List ℕ) (before : List Step) (s : Step) (rest : List Step) → AllCalled image (before ++ (s ∷ rest)) → AllHeld holds image before
       → holds (made_by s.1 (made_by_all before image)) ≡ false
-      → apply_steps holds image (before ++ (s ∷ rest)) ≡ (Err (in_record s.0 (fault NoRoom (told_place s.1))), made_by_all before image)
+      → apply_steps holds image (before ++ (s ∷ rest)) ≡ (Err (in_record s.0 (fault NoRoom (fault_place s.1))), made_by_all before image)
   stops_behind image [] s rest c h u = step_refused holds image s rest c.0 u
   stops_behind image (x ∷ before) s rest c h u =
       step_taken holds image x (before ++ (s ∷ rest)) c.0 h.0 ∙ stops_behind (made_by x.1 image) before s rest c.1 h.1 u

@@ -1,4 +1,5 @@
--- What a sound list of records says of its data records, its size and its ranges. Rests on soundness and on canonical runs.
+-- What a sound list of records says of its data records, its size and its ranges. Rests on
+-- soundness and on canonical runs.
 use Rattle.std.proofs.Common.{◌≡◌, ℕ, ◌^◌, ◌<◌, ◌≤◌, List, [], ◌∷◌, map, length, get_or, None, refl, ap, ◌∙◌, subst, arith}
 use lib.ListN.{length-map}
 use Rattle.std.specs.Option.{option_map}
@@ -10,7 +11,7 @@ use Rattle.overlay.specs.States.{over}
 use Rattle.overlay.proofs.Painted.{over_none}
 use Rattle.overlay.proofs.Bridge.{runs_states}
 use Rattle.stream.specs.Records.{Content, from_name, to_name, image_size, data_at, zeros_at, data_of, size_in}
-use Rattle.stream.specs.Meaning.{mark_of, given, laid, cells, ranges}
+use Rattle.stream.specs.Meaning.{mark_of, record_state, records_state, cells, ranges}
 use Rattle.stream.specs.Sound.{Sound}
 use Rattle.stream.specs.Sound as sound
 use Rattle.overlay.proofs.RangeRuns.{ranges_exist}
@@ -22,7 +23,7 @@ module _ (cs : List Content) (s : Sound cs) where
   size_is : size_in 0 cs ≡ size_in 0 s.metas
   size_is = ap (size_in 0) s.whole ∙ size_first s.metas s.datas 0 (size_in 0 s.metas) 0 s.good s.rising
 
-  pub sound_rising : sound.Rising (size_in 0 cs) 0 (data_of cs)
+  pub sound_rising : sound.RisingRecords (size_in 0 cs) 0 (data_of cs)
   sound_rising =
       let d : data_of cs ≡ s.datas = ap data_of s.whole ∙ data_behind s.metas s.datas s.good ∙ data_only s.datas (size_in 0 s.metas) 0 s.rising in
       rw (d, size_is) s.rising
@@ -31,23 +32,23 @@ module _ (cs : List Content) (s : Sound cs) where
   sound_small = rw size_is (size_small s.metas 0 (omega arith) s.good)
 
 -- metadata gives no position a state
-pub laid_data : (cs : List Content) (p : ℕ) → laid cs p ≡ laid (data_of cs) p
+pub laid_data : (cs : List Content) (p : ℕ) → records_state cs p ≡ records_state (data_of cs) p
 laid_data [] p = refl
-laid_data (from_name name ∷ cs) p = over_none (laid cs p) ∙ laid_data cs p
-laid_data (to_name name ∷ cs) p = over_none (laid cs p) ∙ laid_data cs p
-laid_data (image_size n ∷ cs) p = over_none (laid cs p) ∙ laid_data cs p
-laid_data (data_at o bytes ∷ cs) p = ap (λ t. over t (given (data_at o bytes) p)) (laid_data cs p)
-laid_data (zeros_at o n ∷ cs) p = ap (λ t. over t (given (zeros_at o n) p)) (laid_data cs p)
+laid_data (from_name name ∷ cs) p = over_none (records_state cs p) ∙ laid_data cs p
+laid_data (to_name name ∷ cs) p = over_none (records_state cs p) ∙ laid_data cs p
+laid_data (image_size n ∷ cs) p = over_none (records_state cs p) ∙ laid_data cs p
+laid_data (data_at o bytes ∷ cs) p = ap (λ t. over t (record_state (data_at o bytes) p)) (laid_data cs p)
+laid_data (zeros_at o n ∷ cs) p = ap (λ t. over t (record_state (zeros_at o n) p)) (laid_data cs p)
 
 -- the states of the positions, and the ranges over them
 module _ (cs : List Content) where
   pub cells_length : length (cells cs) ≡ size_in 0 cs
   unfolding cells
-  cells_length = length-map-range_with_len (laid cs) 0 (size_in 0 cs)
+  cells_length = length-map-range_with_len (records_state cs) 0 (size_in 0 cs)
 
-  pub cells_getD : (p : ℕ) → p < size_in 0 cs → get_or (cells cs) p None ≡ laid cs p
+  pub cells_getD : (p : ℕ) → p < size_in 0 cs → get_or (cells cs) p None ≡ records_state cs p
   unfolding cells
-  cells_getD p l = get_or-map-range_with_len (laid cs) 0 (size_in 0 cs) p p None l (omega arith)
+  cells_getD p l = get_or-map-range_with_len (records_state cs) 0 (size_in 0 cs) p p None l (omega arith)
 
   kinds_length : length (map (option_map mark_of) (cells cs)) ≡ size_in 0 cs
   kinds_length = length-map (cells cs) (option_map mark_of) ∙ cells_length
@@ -63,7 +64,7 @@ module _ (cs : List Content) where
     pub ranges_apart : Apart range_moves (ranges (cells cs))
     ranges_apart = are_runs.canonical.apart
 
-    pub ranges_kind : (p : ℕ) → p < size_in 0 cs → at range_moves (ranges (cells cs)) p ≡ option_map mark_of (laid cs p)
+    pub ranges_kind : (p : ℕ) → p < size_in 0 cs → at range_moves (ranges (cells cs)) p ≡ option_map mark_of (records_state cs p)
     ranges_kind p l =
         (runs_states range_moves (map (option_map mark_of) (cells cs)) (ranges (cells cs)) are_runs).paints p (omega (arith, kinds_length))
         ∙ get_or-map (option_map mark_of) (cells cs) p None None (omega (arith, cells_length))

@@ -1,16 +1,17 @@
--- The bytes of an image after steps whose ranges lie in it. Rests on the laws of images, and on what records give a position.
+-- The bytes of an image after steps whose ranges lie in it. Rests on the laws of images, and on
+-- what records give a position.
 use Rattle.std.proofs.Common.{◌≡◌, ℕ, ◌+◌, ◌-◌, ◌<◌, ◌≤◌, ◌&&◌, ltb, leb, List, [], ◌∷◌, map, length, get_or, replicate, Some, None, Option, sym, refl, ap, ◌∙◌, inl, inr, arith}
 use lib.ListN.{length-replicate}
 use Rattle.std.specs.List.{AllByRecursion}
 use Rattle.std.proofs.lemmas.List.{get_or-replicate}
 use Rattle.std.proofs.lemmas.Bool.{cases_Bool, cases_lt, lt-ltb, le-ltb, le-leb, lt-leb, cond-true, cond-false, and_from, and_left, and_right}
 use Rattle.overlay.specs.States.{over}
-use Rattle.store.specs.Images.{overwritten}
+use Rattle.store.specs.Images.{image_with}
 use Rattle.store.specs.Stores.{Images}
 use Rattle.store.proofs.ImageLaws.{length_overwritten, overwritten_in, overwritten_before, overwritten_after}
 use Rattle.store.proofs.Outcomes.{write_inside, zero_inside}
 use Rattle.stream.specs.Records.{Content, from_name, to_name, image_size, data_at, zeros_at}
-use Rattle.stream.specs.Meaning.{Cell, zeroed, written, within, given, laid}
+use Rattle.stream.specs.Meaning.{Cell, zeroed, written, state_within, record_state, records_state}
 use Rattle.stream.specs.Difference.{byte_over}
 use Rattle.apply.specs.Steps.{Step}
 use Rattle.apply.specs.Applies.{apply_steps}
@@ -30,19 +31,19 @@ StepFits size s = Fits size s.1
 
 -- a state of a range, inside of it and outside
 module _ (offset n p : ℕ) (s : Cell) where
-  pub within_in : offset ≤ p → p < offset + n → within offset n p s ≡ Some s
+  pub within_in : offset ≤ p → p < offset + n → state_within offset n p s ≡ Some s
   within_in h l = cond-true (leb offset p && ltb p (offset + n)) (Some s) None (and_from (leb offset p) (ltb p (offset + n)) (le-leb offset p h) (lt-ltb p (offset + n) l))
 
-  pub within_before : p < offset → within offset n p s ≡ None
+  pub within_before : p < offset → state_within offset n p s ≡ None
   within_before h = cond-false (leb offset p && ltb p (offset + n)) (Some s) None (and_left (leb offset p) (ltb p (offset + n)) (lt-leb offset p h))
 
-  pub within_after : offset + n ≤ p → within offset n p s ≡ None
+  pub within_after : offset + n ≤ p → state_within offset n p s ≡ None
   within_after h = cond-false (leb offset p && ltb p (offset + n)) (Some s) None (and_right (leb offset p) (ltb p (offset + n)) (le-ltb p (offset + n) h))
 
 -- the byte at a position after bytes were put into the image
 put_getD : (image : List ℕ) (offset : ℕ) (bytes : List ℕ) (p : ℕ) (s : Cell) → offset + length bytes ≤ length image
     → (offset ≤ p → p < offset + length bytes → byte_over (get_or image p 0) (Some s) ≡ get_or bytes (p - offset) 0)
-    → get_or (overwritten image offset bytes) p 0 ≡ byte_over (get_or image p 0) (within offset (length bytes) p s)
+    → get_or (image_with image offset bytes) p 0 ≡ byte_over (get_or image p 0) (state_within offset (length bytes) p s)
 put_getD image offset bytes p s fits inside =
     elim (cases_lt p offset) [
       | inl a ↦ overwritten_before image offset bytes fits p a ∙ sym (ap (byte_over (get_or image p 0)) (within_before offset (length bytes) p s a))
@@ -52,7 +53,7 @@ put_getD image offset bytes p s fits inside =
       ]
     ]
 
-pub made_getD : (c : Content) (image : List ℕ) (p : ℕ) → Fits (length image) c → get_or (made_by c image) p 0 ≡ byte_over (get_or image p 0) (given c p)
+pub made_getD : (c : Content) (image : List ℕ) (p : ℕ) → Fits (length image) c → get_or (made_by c image) p 0 ≡ byte_over (get_or image p 0) (record_state c p)
 made_getD (from_name name) image p h = absurd h
 made_getD (to_name name) image p h = absurd h
 made_getD (image_size n) image p h = absurd h
@@ -60,7 +61,7 @@ made_getD (data_at offset bytes) image p h = put_getD image offset bytes p (writ
 made_getD (zeros_at offset n) image p h =
     let long : length (replicate {A = ℕ} n 0) ≡ n = length-replicate n 0 in
     put_getD image offset (replicate n 0) p zeroed (omega arith) (λ a b. sym (get_or-replicate n (p - offset) 0 0 (omega arith)))
-    ∙ ap (λ k. byte_over (get_or image p 0) (within offset k p zeroed)) long
+    ∙ ap (λ k. byte_over (get_or image p 0) (state_within offset k p zeroed)) long
 
 pub made_length : (c : Content) (image : List ℕ) → Fits (length image) c → length (made_by c image) ≡ length image
 made_length (from_name name) image h = absurd h
@@ -106,22 +107,22 @@ module _ (size : ℕ) where
 
   -- the byte at a position after steps: the last record that covers it decides
   pub all_get_d : (ss : List Step) (image : List ℕ) (p : ℕ) → length image ≡ size → AllByRecursion (StepFits size) ss
-      → get_or (made_by_all ss image) p 0 ≡ byte_over (get_or image p 0) (laid (records_of ss) p)
+      → get_or (made_by_all ss image) p 0 ≡ byte_over (get_or image p 0) (records_state (records_of ss) p)
   all_get_d [] image p e h = refl
   all_get_d (s ∷ ss) image p e h =
       let f = fits_at s.1 image e h.0 in
       all_get_d ss (made_by s.1 image) p (made_length s.1 image f ∙ e) h.1
-      ∙ ap (λ x. byte_over x (laid (records_of ss) p)) (made_getD s.1 image p f)
-      ∙ byte_twice (get_or image p 0) (given s.1 p) (laid (records_of ss) p)
+      ∙ ap (λ x. byte_over x (records_state (records_of ss) p)) (made_getD s.1 image p f)
+      ∙ byte_twice (get_or image p 0) (record_state s.1 p) (records_state (records_of ss) p)
 
   -- where the steps give a position nothing, it keeps its byte, whatever the outcome
-  pub outcome_getD : (holds : Images) (ss : List Step) (image : List ℕ) (p : ℕ) → length image ≡ size → AllByRecursion (StepFits size) ss → laid (records_of ss) p ≡ None
+  pub outcome_getD : (holds : Images) (ss : List Step) (image : List ℕ) (p : ℕ) → length image ≡ size → AllByRecursion (StepFits size) ss → records_state (records_of ss) p ≡ None
       → get_or (apply_steps holds image ss).1 p 0 ≡ get_or image p 0
   outcome_getD holds [] image p e h k = refl
   outcome_getD holds (s ∷ ss) image p e h k =
       let f = fits_at s.1 image e h.0 in
       let t = called s.1 image f in
-      let nothing = over_parts (laid (records_of ss) p) (given s.1 p) k in
+      let nothing = over_parts (records_state (records_of ss) p) (record_state s.1 p) k in
       elim (cases_Bool (holds (made_by s.1 image))) [
         | inl y ↦
             ap (λ o. get_or o.1 p 0) (step_taken holds image s ss t y)

@@ -1,3 +1,4 @@
+pub mod Inside
 pub mod Steps
 pub mod Applies
 pub mod Read

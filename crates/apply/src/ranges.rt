@@ -1,10 +1,9 @@
-ghost use Rattle.std.specs.Prelude.{◌≡◌, [], ◌∷◌, map};
-ghost use Rattle.apply.specs.Applies.{apply_steps, outcome_in_record};
-ghost use Rattle.apply.specs.Read.{Lies};
-ghost use Rattle.apply.specs.Steps.{numbered, writes, handed, steps_from};
+ghost use Rattle.std.specs.Prelude.{◌≡◌, [], ◌∷◌};
+ghost use Rattle.apply.specs.Applies.{StoreOutcome, outcome_in_record};
+ghost use Rattle.apply.specs.Inside.{OnlyInside};
+ghost use Rattle.apply.specs.Read.{PayloadLies, parts_outcome, range_outcome, ranges_outcome};
 ghost use Rattle.overlay.specs.Runs.{Rising};
 ghost use Rattle.store.specs.Stores.{resize_outcome};
-ghost use Rattle.stream.specs.Places.{held};
 
 use crate::parts::StreamParts;
 use fault::{Fault, Located};
@@ -13,8 +12,9 @@ use store::Store;
 
 // Resizes the image: record 0.
 pub(crate) fn resize_first<S: Store>(size: u64, store: &mut S) -> Result<(), Fault>
-    ensures same { S.holds store.new ≡ S.holds store.old }
-    ensures outcome { (result, S.image store.new) ≡ outcome_in_record 0 (resize_outcome (S.holds store.old) (S.image store.old) size) }
+    ensures { StoreOutcome
+        (outcome_in_record 0 (resize_outcome (S.holds store.old) (S.image store.old) size))
+        result S.image S.holds S.past store.old store.new }
 {
     store.resize(size).in_record(0)
 }
@@ -26,9 +26,11 @@ fn write_part<S: Store>(
     record: u64,
     store: &mut S,
 ) -> Result<(), Fault>
-    requires { Lies stream.now part }
+    requires { PayloadLies stream.now part }
     ensures same { S.holds store.new ≡ S.holds store.old }
-    ensures outcome { (result, S.image store.new) ≡ apply_steps (S.holds store.old) (S.image store.old) (numbered «record» (writes (held stream.now part ∷ []))) }
+    ensures outcome { (result, S.image store.new) ≡ parts_outcome (S.holds store.old)
+        (S.image store.old) «record» stream.now (part ∷ []) }
+    ensures inside { OnlyInside S.image S.past store.old store.new }
 {
     let Some((_, bytes)) = payload(stream, stream, part) else {
         return Ok(());
@@ -39,7 +41,9 @@ fn write_part<S: Store>(
 // Writes the payloads of a stream's parts in turn.
 fn write_parts<S: Store>(stream: StreamParts, record: u64, store: &mut S) -> Result<(), Fault>
     ensures same { S.holds store.new ≡ S.holds store.old }
-    ensures outcome { (result, S.image store.new) ≡ apply_steps (S.holds store.old) (S.image store.old) (numbered «record» (writes (map (held stream.entry.bytes.now) stream.entry.sheet.runs.now))) }
+    ensures outcome { (result, S.image store.new) ≡ parts_outcome (S.holds store.old)
+        (S.image store.old) «record» stream.entry.bytes.now stream.entry.sheet.runs.now }
+    ensures inside { OnlyInside S.image S.past store.old store.new }
 {
     for part in stream.sheet.runs {
         write_part(stream.bytes, *part, record, store)?;
@@ -47,8 +51,8 @@ fn write_parts<S: Store>(stream: StreamParts, record: u64, store: &mut S) -> Res
     Ok(())
 }
 
-// Zeroes a range as a whole, or writes it part by part; the stream's parts are those that begin inside
-// it.
+// Zeroes a range as a whole, or writes it part by part; the stream's parts are those that begin
+// inside it.
 fn apply_range<S: Store>(
     stream: StreamParts,
     range: Run<RangeMark>,
@@ -56,7 +60,9 @@ fn apply_range<S: Store>(
     store: &mut S,
 ) -> Result<(), Fault>
     ensures same { S.holds store.new ≡ S.holds store.old }
-    ensures outcome { (result, S.image store.new) ≡ apply_steps (S.holds store.old) (S.image store.old) (numbered «record» (handed range.mark range.offset range.length (map (held stream.entry.bytes.now) stream.entry.sheet.runs.now))) }
+    ensures outcome { (result, S.image store.new) ≡ range_outcome (S.holds store.old)
+        (S.image store.old) «record» range stream.entry.bytes.now stream.entry.sheet.runs.now }
+    ensures inside { OnlyInside S.image S.past store.old store.new }
 {
     match range.mark {
         RangeMark::Zeroed => store.zero(range.offset, range.length).in_record(record),
@@ -64,8 +70,8 @@ fn apply_range<S: Store>(
     }
 }
 
-// Applies ranges in turn, numbered from 1. Ranges and parts rise, so those parts that begin inside a
-// range lie behind those of the range before it. (With `enumerate`, since a step has to know its record's number.)
+// Applies ranges in turn, numbered from 1. Ranges and parts rise, so the parts that begin inside a
+// range come after those that begin inside the range before it.
 pub(crate) fn apply_ranges<S: Store>(
     stream: StreamParts,
     ranges: &[Run<RangeMark>],
@@ -73,7 +79,9 @@ pub(crate) fn apply_ranges<S: Store>(
 ) -> Result<(), Fault>
     requires { Rising 0 ranges.now stream.sheet.size }
     ensures same { S.holds store.new ≡ S.holds store.old }
-    ensures outcome { (result, S.image store.new) ≡ apply_steps (S.holds store.old) (S.image store.old) (steps_from 1 (map (held stream.entry.bytes.now) stream.entry.sheet.runs.now) ranges.now) }
+    ensures outcome { (result, S.image store.new) ≡ ranges_outcome (S.holds store.old)
+        (S.image store.old) stream.entry.bytes.now stream.entry.sheet.runs.now ranges.now }
+    ensures inside { OnlyInside S.image S.past store.old store.new }
 {
     let mut left = stream;
     for (i, range) in ranges.iter().enumerate() {

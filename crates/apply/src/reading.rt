@@ -1,47 +1,54 @@
 ghost use Rattle.std.specs.Prelude.{◌≡◌, ◌≤◌, take};
-ghost use Rattle.apply.specs.Read.{Reads, Leads, ReadsFrom};
-ghost use Rattle.overlay.specs.declared.payloads.Side.TheVariants.{Later};
+ghost use Rattle.apply.specs.Read.{ReadsFrom};
 ghost use Rattle.overlay.specs.Runs.{Rising};
 ghost use Rattle.stream.specs.Parts.{part_ranges};
-ghost use Rattle.stream.specs.Told.{Told};
+ghost use Rattle.stream.specs.Verdict.{same};
 
 use crate::parts::StreamParts;
 use fault::{Cause, Fault};
 use overlay::Side;
-use stream::{Parts, Ranges, Summary, find_ranges, read};
+use stream::{MOST_RECORDS, Ranges, RunBuffer, Stream, find_ranges};
 
-// Finds the ranges that the parts of a stream come to, in rising order: they go to the front of `out`,
-// and are counted.
+// Finds the ranges that the parts of a stream come to, in rising order, and counts them.
 pub(crate) fn rising_ranges(stream: StreamParts, out: &mut Ranges) -> usize
-    ensures within { result ≤ 1026 }
+    ensures within { result ≤ MOST_RECORDS }
     ensures rising { Rising 0 (take result out.new) stream.entry.sheet.size }
-    ensures ranges { take result out.new ≡ part_ranges stream.entry.sheet.runs.now stream.entry.sheet.size }
+    ensures ranges { take result out.new ≡
+        part_ranges stream.entry.sheet.runs.now stream.entry.sheet.size }
 {
     find_ranges(stream.sheet, out)
 }
 
-// Reads a stream: its metadata, and its data records as parts.
-fn read_parts(stream: &[u8], out: &mut Parts) -> Result<Summary, Fault>
-    ensures { Reads stream.now result out.new }
+// Whether a stream leads from a name.
+fn leads_from(stream: Stream, name: &[u8]) -> bool
+    ensures { result ≡ same stream.entry.from.now name.now }
 {
-    read(stream, Side::Later, out)
+    stream.from == name
 }
 
-// Whether a stream that was read leads from a name.
-fn leads_from(stream: &[u8], parts: &Parts, summary: Summary, name: &[u8]) -> bool
-    requires { Told Later stream.now summary parts.now }
-    ensures { Leads name.now stream.now result }
+// The reading and the comparison of names.
+fn read_led<'s, 'r>(
+    bytes: &'s [u8],
+    name: &[u8],
+    buffer: &'r mut RunBuffer,
+) -> Result<Stream<'s, 'r>, Fault>
+    ensures { ReadsFrom name.now bytes.now result }
 {
-    summary.from.of(stream) == name
-}
-
-// Reads a stream that leads from a name; another is refused.
-pub(crate) fn read_from(stream: &[u8], name: &[u8], out: &mut Parts) -> Result<Summary, Fault>
-    ensures { ReadsFrom name.now stream.now result out.new }
-{
-    let summary = read_parts(stream, out)?;
-    if !leads_from(stream, out, summary, name) {
+    let stream = Stream::read(bytes, Side::Later, buffer)?;
+    if !leads_from(stream, name) {
         return Err(Fault::new(Cause::NamesDiffer, 0));
     }
-    Ok(summary)
+    Ok(stream)
+}
+
+/// Reads a stream that is to be applied to an image whose present name is `name`. It is refused if
+/// the stream has a fault, then (12) if it leads from another name.
+pub fn read_from<'s, 'r>(
+    bytes: &'s [u8],
+    name: &[u8],
+    buffer: &'r mut RunBuffer,
+) -> Result<Stream<'s, 'r>, Fault>
+    ensures { ReadsFrom name.now bytes.now result }
+{
+    read_led(bytes, name, buffer)
 }

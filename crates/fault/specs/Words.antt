@@ -1,4 +1,4 @@
--- What a refusal says to people: its cause in a few words, and its five numbers. Rests on the numbers of causes and layers.
+-- A refusal in words: its cause, and its five numbers. Rests on the numbers of causes and layers.
 use Rattle.std.specs.Prelude.{ℕ, List, ◌++◌, codes, decimal}
 use Rattle.fault.specs.Fault.{cause_number, layer_number}
 use Rattle.fault.specs.declared.kinds.Cause.{Cause}

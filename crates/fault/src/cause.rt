@@ -1,4 +1,4 @@
-// What a cause tells: its number, its words, the layer that gives it, and its place.
+// The number of a cause, its words, the layer that gives it, and its place.
 ghost use Rattle.std.specs.Prelude.{◌≡◌, Some};
 ghost use Rattle.fault.specs.Fault.{cause_number, layer_of, place_of};
 ghost use Rattle.fault.specs.Words.{cause_words};
@@ -7,15 +7,14 @@ use crate::kinds::{Cause, Layer};
 use std::fmt;
 
 impl Cause {
-    // The cause's number, 1 to 20: what C is answered and what is printed. (A cast, in a function so that it has a
-    // contract.)
+    /// The cause's number, 1 to 20, as the calls for C return it and as it is printed.
     pub fn number(self) -> u64
         ensures { result ≡ cause_number self }
     {
         self as u64
     }
 
-    // The layer that gives the cause, where the call does not name another.
+    // The layer that gives the cause, unless the call names another one.
     pub(crate) fn layer(self) -> Layer
         ensures { result ≡ layer_of self }
     {
@@ -27,7 +26,7 @@ impl Cause {
         }
     }
 
-    // The place that a fault of this cause has, where `at` is the number that the cause speaks of.
+    // The place of a fault of this cause, where `at` is the number at hand.
     pub(crate) fn place(self, at: u64) -> u64
         ensures { result ≡ place_of self at }
     {
@@ -38,7 +37,7 @@ impl Cause {
         }
     }
 
-    // What the cause says to people, in a few words.
+    // The cause in a few words.
     fn words(self) -> &'static str
         ensures { result.now ≡ cause_words self }
     {

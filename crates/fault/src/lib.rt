@@ -1,5 +1,5 @@
-// Refusals: what every layer answers when it turns a call away. A layer makes a fault, and the layers
-// above hand it on by `?` and add the record and the entry, nothing else.
+// Refusals: the error that every layer returns. A layer makes a fault, and the layers above return
+// it by `?` and add only the record and the entry.
 #![tactic(auto)]
 
 ghost use Rattle.std.specs.Prelude.{◌≡◌, ℕ, Some};
@@ -15,8 +15,7 @@ mod kinds;
 pub use kinds::{Cause, Fault, Layer};
 
 impl Layer {
-    // The layer's number, 1 to 4: what C is answered and what is printed. (A cast, in a function so that it
-    // has a contract.)
+    /// The layer's number, 1 to 4, as the calls for C return it and as it is printed.
     pub fn number(self) -> u64
         ensures { result ≡ layer_number self }
     {
@@ -25,7 +24,8 @@ impl Layer {
 }
 
 impl Fault {
-    // The fault of a cause, at the place that its number `at` gives.
+    /// The fault of a cause, where `at` is the number at hand: a place, a length, an offset, a size
+    /// or an entry's number. Causes that have no place drop it.
     pub fn new(cause: Cause, at: u64) -> Fault
         ensures { result ≡ fault cause at }
     {
@@ -38,21 +38,21 @@ impl Fault {
         }
     }
 
-    // The same fault, given by another layer.
+    /// The same fault, given by another layer.
     pub fn at_layer(self, layer: Layer) -> Fault
         ensures { result ≡ at_layer layer self }
     {
         Fault { layer, ..self }
     }
 
-    // The same fault, in a record. (Of one shape with `in_entry`: each sets the field that it is named for.)
+    /// The same fault, in a canonical record of this number.
     pub fn in_record(self, record: u64) -> Fault
         ensures { result ≡ in_record «record» self }
     {
         Fault { record, ..self }
     }
 
-    // The same fault, in an entry.
+    /// The same fault, in a shelf's entry of this number, or in stream 0 or 1 of a join.
     pub fn in_entry(self, entry: u64) -> Fault
         ensures { result ≡ in_entry entry self }
     {
@@ -79,28 +79,31 @@ impl fmt::Display for Fault {
     }
 }
 
-// So that a program hands a fault on by `?`.
+// So that a program can return a fault by `?` as its own error.
 impl Error for Fault {}
 
-// A result whose fault, if it has one, gains where it happened: `check(stream).in_entry(1)?`.
+/// A result whose fault, if it has one, gains the record or the entry:
+/// `check(stream).in_entry(1)?`.
 pub trait Located {
-    // the result with its fault in a record, and in an entry
-    ghost recorded: { ℕ → Self → Self };
+    // the result with its fault in a record
+    ghost with_record: { ℕ → Self → Self };
 
-    ghost entered: { ℕ → Self → Self };
+    // the result with its fault in an entry
+    ghost with_entry: { ℕ → Self → Self };
 
+    /// The same result, whose fault is in a record.
     fn in_record(self, record: u64) -> Self
-        ensures { result ≡ recorded «record» self };
+        ensures { result ≡ with_record «record» self };
 
+    /// The same result, whose fault is in an entry.
     fn in_entry(self, entry: u64) -> Self
-        ensures { result ≡ entered entry self };
+        ensures { result ≡ with_entry entry self };
 }
 
-// (Each by the fault's method of the same name, so the two are of one shape.)
 impl<T> Located for Result<T, Fault> {
-    ghost recorded = { λ i r. fault_by (in_record i) r };
+    ghost with_record = { λ i r. fault_by (in_record i) r };
 
-    ghost entered = { λ i r. fault_by (in_entry i) r };
+    ghost with_entry = { λ i r. fault_by (in_entry i) r };
 
     fn in_record(self, record: u64) -> Result<T, Fault> {
         self.map_err(|f| f.in_record(record))

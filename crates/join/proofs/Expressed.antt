@@ -1,6 +1,6 @@
 -- The canonical records of a difference are sound, and mean the difference. Assumes nothing.
 use Rattle.std.proofs.Common.{◌≡◌, ℕ, ◌+◌, ◌-◌, ◌^◌, ◌<◌, ◌≤◌, List, [], ◌∷◌, ◌++◌, map, length, get_or, take, drop, Some, None, Ok, Option, sym, refl, ap, ◌∙◌, subst, ⊎_elim, arith, length-drop, length-take}
-use Rattle.fault.specs.Fault.{then}
+use Rattle.fault.specs.Fault.{and_then}
 use Rattle.std.specs.List.{AllByRecursion, range_with_len}
 use Rattle.std.specs.Option.{option_map}
 use Rattle.std.proofs.lemmas.List.{length-map, get_or-map, get_or-take, get_or-drop, ext_get_or}
@@ -11,7 +11,7 @@ use Rattle.overlay.specs.declared.ranges.RangeMark.{RangeMark}
 use Rattle.overlay.specs.declared.ranges.RangeMark.TheVariants as range
 use Rattle.overlay.specs.Marks.{range_moves}
 use Rattle.overlay.specs.States.{over}
-use Rattle.overlay.specs.Runs.{ends, at, Rising}
+use Rattle.overlay.specs.Runs.{run_end, at, Rising}
 use Rattle.overlay.proofs.Painted.{over_none, run_inside, run_after, rising_le, at_before}
 use Rattle.overlay.proofs.Bridge.{runs_states}
 use Rattle.stream.specs.Records.{Content, metas, from_of, to_of, size_in}
@@ -19,15 +19,16 @@ use Rattle.stream.specs.Verdict.{verdict}
 use Rattle.stream.specs.Wellformed.{GoodName}
 use Rattle.stream.specs.Sound as sound
 use Rattle.stream.specs.Sound.{GoodMeta, froms, tos, sizes, Sound}
-use Rattle.stream.specs.Meaning.{Cell, zeroed, written, given, laid, cells, mark_of, ranges}
-use Rattle.stream.specs.Difference.{Difference, difference, meaning, byte_over, payload_at, range_content, content_of, canonical_records, canonical, GoodFrom, Expressible}
+use Rattle.stream.specs.Meaning.{Cell, zeroed, written, record_state, records_state, cells, mark_of, ranges}
+use Rattle.stream.specs.Difference.{Difference, difference, meaning, byte_over, payload_at, range_content, content_of, canonical_records, canonical_bytes, GoodFrom, Expressible}
 use Rattle.stream.proofs.Forth.{reads_back}
 use Rattle.stream.proofs.Sounds.{sound_exactly}
 use Rattle.join.specs.Laws.{CanonicalStream}
 use Rattle.stream.proofs.Meanings.{within_in}
 use Rattle.join.proofs.Payloads.{length_payload}
-use Rattle.join.proofs.Records.{ranges_runs, ranges_rise}
-use Rattle.join.proofs.Readings.{difference_same, meaning_ok}
+use Rattle.stream.proofs.Ranged.{ranges_runs}
+use Rattle.join.proofs.Records.{ranges_rise}
+use Rattle.stream.proofs.Sources.{difference_same, meaning_ok}
 
 -- the metadata of a canonical stream
 good_metas : (from to : List ℕ) (n : ℕ) → GoodFrom from → GoodName to → n ≤ 2 ^ 40 → AllByRecursion GoodMeta (metas from to n)
@@ -63,7 +64,7 @@ said_size : (from to : List ℕ) (n : ℕ) (cs : List Content) → ((before : �
 said_size [] to n cs h = h n
 said_size (b ∷ bs) to n cs h = h n
 
-laid_behind : (from to : List ℕ) (n : ℕ) (cs : List Content) (p : ℕ) → laid (metas from to n ++ cs) p ≡ laid cs p
+laid_behind : (from to : List ℕ) (n : ℕ) (cs : List Content) (p : ℕ) → records_state (metas from to n ++ cs) p ≡ records_state cs p
 laid_behind [] to n cs p = over_none _ ∙ over_none _
 laid_behind (b ∷ bs) to n cs p = over_none _ ∙ over_none _ ∙ over_none _
 
@@ -80,17 +81,17 @@ size_one : (m : RangeMark) (o n : ℕ) (bs : List ℕ) (cs : List Content) (befo
 size_one range.Zeroed o n bs cs before = refl
 size_one range.Written o n bs cs before = refl
 
-rise_one : (m : RangeMark) (o n : ℕ) (bs : List ℕ) (cs : List Content) (size end : ℕ) → length bs ≡ n → end ≤ o → 1 ≤ n → o + n ≤ size → sound.Rising size (o + n) cs
-    → sound.Rising size end (range_content m o n bs ∷ cs)
+rise_one : (m : RangeMark) (o n : ℕ) (bs : List ℕ) (cs : List Content) (size end : ℕ) → length bs ≡ n → end ≤ o → 1 ≤ n → o + n ≤ size → sound.RisingRecords size (o + n) cs
+    → sound.RisingRecords size end (range_content m o n bs ∷ cs)
 rise_one range.Zeroed o n bs cs size end e h s l r = (h, s, l, r)
-rise_one range.Written o n bs cs size end e h s l r = (h, omega arith, omega arith, subst (λ k. sound.Rising size (o + k) cs) (sym e) r)
+rise_one range.Written o n bs cs size end e h s l r = (h, omega arith, omega arith, subst (λ k. sound.RisingRecords size (o + k) cs) (sym e) r)
 
 -- what it gives a position before, inside and after its range
-given_before : (m : RangeMark) (o n : ℕ) (bs : List ℕ) (p : ℕ) → p < o → given (range_content m o n bs) p ≡ None
+given_before : (m : RangeMark) (o n : ℕ) (bs : List ℕ) (p : ℕ) → p < o → record_state (range_content m o n bs) p ≡ None
 given_before range.Zeroed o n bs p h = grind arith
 given_before range.Written o n bs p h = grind arith
 
-given_after : (m : RangeMark) (o n : ℕ) (bs : List ℕ) (p : ℕ) → length bs ≡ n → o + n ≤ p → given (range_content m o n bs) p ≡ None
+given_after : (m : RangeMark) (o n : ℕ) (bs : List ℕ) (p : ℕ) → length bs ≡ n → o + n ≤ p → record_state (range_content m o n bs) p ≡ None
 given_after range.Zeroed o n bs p e h = grind arith
 given_after range.Written o n bs p e h = grind arith
 
@@ -118,7 +119,7 @@ module _ (ds : List (Option Cell)) where
       ∙ ap (byte_over 0) (get_or-take n (drop o ds) (p - o) None k ∙ get_or-drop o ds (p - o) None ∙ ap (λ j. get_or ds j None) e)
 
   given_in : (m : RangeMark) (o n p : ℕ) → o + n ≤ length ds → o ≤ p → p < o + n → Some m ≡ option_map mark_of (get_or ds p None)
-      → given (range_content m o n (payload_at ds o n)) p ≡ get_or ds p None
+      → record_state (range_content m o n (payload_at ds o n)) p ≡ get_or ds p None
   given_in range.Zeroed o n p under h l k = within_in o n p zeroed h l ∙ zeroed_cell (get_or ds p None) k
   given_in range.Written o n p under h l k =
       let e = length_payload ds o n under in
@@ -138,41 +139,42 @@ module _ (ds : List (Option Cell)) where
   size_kept [] before = refl
   size_kept (r ∷ rs) before = size_one r.mark r.offset r.length _ (map (content_of ds) rs) before ∙ size_kept rs before
 
-  records_rise : (a b : ℕ) (rs : List (Run RangeMark)) → Rising a rs b → b ≤ length ds → sound.Rising b a (map (content_of ds) rs)
+  records_rise : (a b : ℕ) (rs : List (Run RangeMark)) → Rising a rs b → b ≤ length ds → sound.RisingRecords b a (map (content_of ds) rs)
   records_rise a b [] h l = tt
   records_rise a b (r ∷ rs) h l =
-      let u = rising_le (ends r) b rs h.2 in
-      rise_one r.mark r.offset r.length _ (map (content_of ds) rs) b a (length_payload ds r.offset r.length (omega arith)) h.0 h.1 u (records_rise (ends r) b rs h.2 l)
+      let u = rising_le (run_end r) b rs h.2 in
+      rise_one r.mark r.offset r.length _ (map (content_of ds) rs) b a (length_payload ds r.offset r.length (omega arith)) h.0 h.1 u (records_rise (run_end r) b rs h.2 l)
 
-  laid_before : (a b : ℕ) (rs : List (Run RangeMark)) (p : ℕ) → Rising a rs b → p < a → laid (map (content_of ds) rs) p ≡ None
+  laid_before : (a b : ℕ) (rs : List (Run RangeMark)) (p : ℕ) → Rising a rs b → p < a → records_state (map (content_of ds) rs) p ≡ None
   laid_before a b [] p h l = refl
   laid_before a b (r ∷ rs) p h l =
-      ap (λ s. over s (given (content_of ds r) p)) (laid_before (ends r) b rs p h.2 (omega arith))
+      ap (λ s. over s (record_state (content_of ds r) p)) (laid_before (run_end r) b rs p h.2 (omega arith))
       ∙ given_before r.mark r.offset r.length _ p (omega arith)
 
-  -- records of ranges that say of each position what the difference says give it the difference's state
+  -- records of ranges that say of each position what the difference says give it the difference's
+  -- state
   laid_ranges : (a b : ℕ) (rs : List (Run RangeMark)) → Rising a rs b → b ≤ length ds → (p : ℕ) → a ≤ p → p < length ds
-      → at range_moves rs p ≡ option_map mark_of (get_or ds p None) → laid (map (content_of ds) rs) p ≡ get_or ds p None
+      → at range_moves rs p ≡ option_map mark_of (get_or ds p None) → records_state (map (content_of ds) rs) p ≡ get_or ds p None
   laid_ranges a b [] h l p x y k = kept_cell (get_or ds p None) k
   laid_ranges a b (r ∷ rs) h l p x y k =
-      let u = rising_le (ends r) b rs h.2 in
+      let u = rising_le (run_end r) b rs h.2 in
       let c = content_of ds r in
       let cs = map (content_of ds) rs in
       ⊎_elim
       (λ i.
-      ap (λ s. over s (given c p)) (laid_before (ends r) b rs p h.2 (omega arith))
+      ap (λ s. over s (record_state c p)) (laid_before (run_end r) b rs p h.2 (omega arith))
       ∙ given_before r.mark r.offset r.length _ p i
       ∙ kept_cell (get_or ds p None) (sym (at_before range_moves r.offset b (r ∷ rs) p ((omega arith), h.1, h.2) i) ∙ k))
       (λ i.
       ⊎_elim
       (λ j.
-      ap (λ s. over s (given c p)) (laid_before (ends r) b rs p h.2 j)
+      ap (λ s. over s (record_state c p)) (laid_before (run_end r) b rs p h.2 j)
       ∙ given_in r.mark r.offset r.length p (omega arith) i j (sym (ap (λ s. over s (at range_moves rs p)) (run_inside range_moves r p i j)) ∙ k))
       (λ j.
-      ap (λ s. over (laid cs p) s) (given_after r.mark r.offset r.length _ p (length_payload ds r.offset r.length (omega arith)) j)
-      ∙ over_none (laid cs p)
-      ∙ laid_ranges (ends r) b rs h.2 l p j y (sym (ap (λ s. over s (at range_moves rs p)) (run_after range_moves r p j)) ∙ k))
-      (cases_lt p (ends r)))
+      ap (λ s. over (records_state cs p) s) (given_after r.mark r.offset r.length _ p (length_payload ds r.offset r.length (omega arith)) j)
+      ∙ over_none (records_state cs p)
+      ∙ laid_ranges (run_end r) b rs h.2 l p j y (sym (ap (λ s. over s (at range_moves rs p)) (run_after range_moves r p j)) ∙ k))
+      (cases_lt p (run_end r)))
       (cases_lt p r.offset)
 
 -- the canonical records of a difference that a stream can express
@@ -190,7 +192,7 @@ module _ (d : Difference) (x : Expressible d) where
         one_from = one_from d.from d.to n;
         one_to = one_to d.from d.to n;
         one_size = one_size d.from d.to n;
-        rising = subst (λ z. sound.Rising z 0 (map (content_of d.cells) rs)) (sym (metas_size d.from d.to n))
+        rising = subst (λ z. sound.RisingRecords z 0 (map (content_of d.cells) rs)) (sym (metas_size d.from d.to n))
             (records_rise d.cells 0 n rs (ranges_rise d.cells (omega (arith, x.small))) (omega arith));
         few = omega (arith, length-map rs (content_of d.cells), x.few);
       }
@@ -207,12 +209,12 @@ module _ (d : Difference) (x : Expressible d) where
       let lm = length-map ds (option_map mark_of) in
       let fits : length d.cells < 2 ^ 64 = omega (arith, x.small) in
       let tell = runs_states range_moves (map (option_map mark_of) ds) rs (ranges_runs ds fits) in
-      ap (λ k. map (laid cs) (range_with_len 0 k)) z
-      ∙ ext_get_or None (map (laid cs) (range_with_len 0 n)) ds (length-map-range_with_len (laid cs) 0 n)
+      ap (λ k. map (records_state cs) (range_with_len 0 k)) z
+      ∙ ext_get_or None (map (records_state cs) (range_with_len 0 n)) ds (length-map-range_with_len (records_state cs) 0 n)
       (λ p h.
-      let l : p < length d.cells = omega (arith, length-map-range_with_len (laid cs) 0 n) in
+      let l : p < length d.cells = omega (arith, length-map-range_with_len (records_state cs) 0 n) in
       let m : p < length (map (option_map mark_of) d.cells) = omega arith in
-      get_or-map-range_with_len (laid cs) 0 n p p None l (omega arith)
+      get_or-map-range_with_len (records_state cs) 0 n p p None l (omega arith)
       ∙ laid_behind d.from d.to n data' p
       ∙ laid_ranges ds 0 n rs (ranges_rise ds fits) (omega arith) p (omega arith) l (tell.paints p m ∙ get_or-map (option_map mark_of) ds p None None l))
 
@@ -223,17 +225,17 @@ module _ (d : Difference) (x : Expressible d) where
       let data' = map (content_of d.cells) rs in
       difference_same _ d (said_from d.from d.to n data' (from_kept d.cells rs)) (said_to d.from d.to n data' (to_kept d.cells rs)) expressed_cells
 
-  pub expressed_read : verdict (canonical d) ≡ Ok (canonical_records d)
-  unfolding canonical
+  pub expressed_read : verdict (canonical_bytes d) ≡ Ok (canonical_records d)
+  unfolding canonical_bytes
   expressed_read = reads_back (canonical_records d) ((sound_exactly (canonical_records d)).1 expressed_sound)
 
   -- the canonical stream means the difference
-  pub expressed_meaning : meaning (canonical d) ≡ Ok d
-  expressed_meaning = meaning_ok (canonical d) (canonical_records d) expressed_read ∙ ap Ok expressed_means
+  pub expressed_meaning : meaning (canonical_bytes d) ≡ Ok d
+  expressed_meaning = meaning_ok (canonical_bytes d) (canonical_records d) expressed_read ∙ ap Ok expressed_means
 
   pub canonical_law : CanonicalStream d
   canonical_law = record {
     reads_back = expressed_read;
     means = expressed_means;
-    own = ap (λ o. then o (λ e. Ok (canonical e))) expressed_meaning;
+    own = ap (λ o. and_then o (λ e. Ok (canonical_bytes e))) expressed_meaning;
   }

@@ -1,9 +1,7 @@
-pub mod Readings
 pub mod Sets
 pub mod Payloads
 pub mod Records
 pub mod Links
-pub mod Fewest
 pub mod Kept
 pub mod Expressed
 pub mod Accepted

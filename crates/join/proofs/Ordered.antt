@@ -4,15 +4,15 @@ use Rattle.std.specs.List.{AllByRecursion}
 use Rattle.std.proofs.lemmas.List.{append_assoc, get_or-append_right, get_or-append-add}
 use Rattle.std.proofs.lemmas.Bool.{and_parts, and_from, eqb-true, eq-eqb}
 use Rattle.stream.specs.Bytes.{le_bytes}
-use Rattle.stream.specs.Records.{Content, from_name, to_name, image_size, data_at, zeros_at, header, encodings, encoded_stream, metas, from_of, to_of, size_in}
-use Rattle.stream.specs.Sound.{GoodMeta, froms, tos, sizes, Rising, Sound}
+use Rattle.stream.specs.Records.{Content, from_name, to_name, image_size, data_at, zeros_at, header, records_bytes, stream_bytes, metas, from_of, to_of, size_in}
+use Rattle.stream.specs.Sound.{GoodMeta, froms, tos, sizes, RisingRecords, Sound}
 use Rattle.stream.proofs.Meanings.{encodings_append, size_kept}
-use Rattle.join.specs.Orders.{tagged, in_order}
+use Rattle.join.specs.Orders.{has_tag, in_order}
 use Rattle.join.proofs.Accepted.{data_from, data_to}
 
--- the tag of the first record, with bytes behind the records
+-- the tag of the first record, with bytes after the records
 abbrev first : List Content → List ℕ → ℕ
-first cs tail = get_or (encodings cs ++ tail) 0 0
+first cs tail = get_or (records_bytes cs ++ tail) 0 0
 
 none_left : (ms : List Content) → AllByRecursion GoodMeta ms → froms ms + tos ms + sizes ms ≡ 0 → ms ≡ []
 none_left [] g h = refl
@@ -51,8 +51,8 @@ from_first (image_size n ∷ ms) tail g t e = absurd (omega arith)
 from_first (data_at o bs ∷ ms) tail g t e = absurd g.0
 from_first (zeros_at o n ∷ ms) tail g t e = absurd g.0
 
--- the from name behind metadata
-module _ (ds : List Content) (size end : ℕ) (r : Rising size end ds) where
+-- the from name after metadata
+module _ (ds : List Content) (size end : ℕ) (r : RisingRecords size end ds) where
   from_stays : (ms : List Content) (name : List ℕ) → AllByRecursion GoodMeta ms → 1 ≤ length name → 1 ≤ length (from_of name (ms ++ ds))
   from_stays [] name g h = subst (λ v. 1 ≤ length v) (sym (data_from ds size end name r)) h
   from_stays (from_name n ∷ ms) name g h = from_stays ms n g.1 g.0.0
@@ -90,7 +90,7 @@ module _ (ds : List Content) (size end : ℕ) (r : Rising size end ds) where
   size_said [] to n = size_kept ds n size end r
   size_said (b ∷ bs) to n = size_kept ds n size end r
 
--- the byte behind the first name of a stream
+-- the byte after the first name of a stream
 behind_name : (tag : ℕ) (name rest : List ℕ) → get_or (header ++ (tag ∷ (le_bytes 4 (length name) ++ (name ++ rest)))) (17 + length name) 0 ≡ get_or rest 0 0
 behind_name tag name rest =
     let z : length name - length name ≡ 0 = omega arith in
@@ -108,35 +108,35 @@ record Metas (ms : List Content) : Type 0 where
   size : ℕ
   whole : ms ≡ metas from to size
 
-module _ (ms ds : List Content) (xs : List ℕ) (size end : ℕ) (r : Rising size end ds) (g : AllByRecursion GoodMeta ms) (f : froms ms ≤ 1) (t : tos ms ≡ 1) (s : sizes ms ≡ 1)
-    (e : xs ≡ encoded_stream (ms ++ ds)) where
-  parted : (cs : List Content) → encodings (cs ++ ds) ++ tail ≡ encodings cs ++ (encodings ds ++ tail)
-  parted cs = ap (λ v. v ++ tail) (encodings_append cs ds) ∙ append_assoc (encodings cs) (encodings ds) tail
+module _ (ms ds : List Content) (xs : List ℕ) (size end : ℕ) (r : RisingRecords size end ds) (g : AllByRecursion GoodMeta ms) (f : froms ms ≤ 1) (t : tos ms ≡ 1) (s : sizes ms ≡ 1)
+    (e : xs ≡ stream_bytes (ms ++ ds)) where
+  parted : (cs : List Content) → records_bytes (cs ++ ds) ++ tail ≡ records_bytes cs ++ (records_bytes ds ++ tail)
+  parted cs = ap (λ v. v ++ tail) (encodings_append cs ds) ∙ append_assoc (records_bytes cs) (records_bytes ds) tail
 
-  first_tag : first ms (encodings ds ++ tail) ≡ get_or xs 12 0
-  first_tag = sym (ap (λ v. get_or v 12 0) e ∙ get_or-append-add header (encodings (ms ++ ds) ++ tail) 0 0 ∙ ap (λ v. get_or v 0 0) (parted ms))
+  first_tag : first ms (records_bytes ds ++ tail) ≡ get_or xs 12 0
+  first_tag = sym (ap (λ v. get_or v 12 0) e ∙ get_or-append-add header (records_bytes (ms ++ ds) ++ tail) 0 0 ∙ ap (λ v. get_or v 0 0) (parted ms))
 
-  -- the tag behind a from name
-  next_tag : (name : List ℕ) (more : List Content) → ms ≡ from_name name ∷ more → first more (encodings ds ++ tail) ≡ get_or xs (17 + length name) 0
+  -- the tag after a from name
+  next_tag : (name : List ℕ) (more : List Content) → ms ≡ from_name name ∷ more → first more (records_bytes ds ++ tail) ≡ get_or xs (17 + length name) 0
   next_tag name more m =
       sym (ap (λ v. get_or v (17 + length name) 0)
-      (e ∙ ap (λ v. encoded_stream (v ++ ds)) m ∙ ap (λ v. header ++ (102 ∷ (le_bytes 4 (length name) ++ v))) (append_assoc name (encodings (more ++ ds)) tail ∙ ap (λ v. name ++ v) (parted more)))
-      ∙ behind_name 102 name (encodings more ++ (encodings ds ++ tail)))
+      (e ∙ ap (λ v. stream_bytes (v ++ ds)) m ∙ ap (λ v. header ++ (102 ∷ (le_bytes 4 (length name) ++ v))) (append_assoc name (records_bytes (more ++ ds)) tail ∙ ap (λ v. name ++ v) (parted more)))
+      ∙ behind_name 102 name (records_bytes more ++ (records_bytes ds ++ tail)))
 
   metas_found : (name : List ℕ) → from_of [] (ms ++ ds) ≡ name → in_order xs name ≡ true → Metas ms
   metas_found [] h o =
-      let l = to_first ms (encodings ds ++ tail) g (no_from ds size end r ms [] g (ap length h)) t s (first_tag ∙ eqb-true _ _ o) in
+      let l = to_first ms (records_bytes ds ++ tail) g (no_from ds size end r ms [] g (ap length h)) t s (first_tag ∙ eqb-true _ _ o) in
       record { from = []; to = l.0; size = l.1; whole = l.2 }
   metas_found (b ∷ bs) h o =
-      let both = and_parts (tagged xs 12 102) (tagged xs (17 + length (b ∷ bs)) 116) o in
-      let l = from_first ms (encodings ds ++ tail) g t (first_tag ∙ eqb-true _ _ both.0) in
+      let both = and_parts (has_tag xs 12 102) (has_tag xs (17 + length (b ∷ bs)) 116) o in
+      let l = from_first ms (records_bytes ds ++ tail) g t (first_tag ∙ eqb-true _ _ both.0) in
       let name = l.0 in
       let more = l.1 in
       let m : ms ≡ from_name name ∷ more = l.2 in
       let good : AllByRecursion GoodMeta (from_name name ∷ more) = subst (AllByRecursion GoodMeta) m g in
       let none : froms more ≡ 0 = omega (arith, ap froms m) in
       let is : name ≡ b ∷ bs = sym (from_kept ds size end r more name good.1 none) ∙ sym (ap (λ v. from_of [] (v ++ ds)) m) ∙ h in
-      let k = to_first more (encodings ds ++ tail) good.1 none (sym (ap tos m) ∙ t) (sym (ap sizes m) ∙ s)
+      let k = to_first more (records_bytes ds ++ tail) good.1 none (sym (ap tos m) ∙ t) (sym (ap sizes m) ∙ s)
       (next_tag name more m ∙ ap (λ v. get_or xs (17 + length v) 0) is ∙ eqb-true _ _ both.1) in
       record {
         from = b ∷ bs;
@@ -146,14 +146,14 @@ module _ (ms ds : List Content) (xs : List ℕ) (size end : ℕ) (r : Rising siz
       }
 
 -- the metadata of sound records are in the canonical order if the tags say so
-pub ordered : (cs : List Content) (xs : List ℕ) (s : Sound cs) → xs ≡ encoded_stream cs → in_order xs (from_of [] cs) ≡ true
+pub ordered : (cs : List Content) (xs : List ℕ) (s : Sound cs) → xs ≡ stream_bytes cs → in_order xs (from_of [] cs) ≡ true
     → s.metas ≡ metas (from_of [] cs) (to_of [] cs) (size_in 0 cs)
 ordered cs xs s e o =
     let ms = s.metas in
     let ds = s.datas in
     let r = s.rising in
     let z = size_in 0 ms in
-    let m = metas_found ms ds xs z 0 r s.good s.one_from s.one_to s.one_size (e ∙ ap encoded_stream s.whole) (from_of [] cs) (ap (from_of []) (sym s.whole)) o in
+    let m = metas_found ms ds xs z 0 r s.good s.one_from s.one_to s.one_size (e ∙ ap stream_bytes s.whole) (from_of [] cs) (ap (from_of []) (sym s.whole)) o in
     let from = m.from in
     let to = m.to in
     let n = m.size in
@@ -164,11 +164,11 @@ ordered cs xs s e o =
     ∙ ap (metas (from_of [] cs) (to_of [] cs)) (sym (ap (size_in 0) w ∙ size_said ds z 0 r from to n))
 
 -- and the tags of a canonical stream do
-pub canonical_order : (from to : List ℕ) (n : ℕ) (rest : List Content) → in_order (encoded_stream (metas from to n ++ rest)) from ≡ true
+pub canonical_order : (from to : List ℕ) (n : ℕ) (rest : List Content) → in_order (stream_bytes (metas from to n ++ rest)) from ≡ true
 canonical_order [] to n rest = refl
 canonical_order (b ∷ bs) to n rest =
     let more = to_name to ∷ (image_size n ∷ rest) in
     and_from _ _ refl
     (eq-eqb _ _
-    (ap (λ v. get_or (header ++ (102 ∷ (le_bytes 4 (length (b ∷ bs)) ++ v))) (17 + length (b ∷ bs)) 0) (append_assoc (b ∷ bs) (encodings more) tail)
-    ∙ behind_name 102 (b ∷ bs) (encodings more ++ tail)))
+    (ap (λ v. get_or (header ++ (102 ∷ (le_bytes 4 (length (b ∷ bs)) ++ v))) (17 + length (b ∷ bs)) 0) (append_assoc (b ∷ bs) (records_bytes more) tail)
+    ∙ behind_name 102 (b ∷ bs) (records_bytes more ++ tail)))

@@ -14,13 +14,14 @@ use Rattle.overlay.specs.declared.payloads.PayloadMark.{PayloadMark}
 use Rattle.overlay.specs.declared.payloads.PayloadMark.TheVariants.{Zeroed, Written}
 use Rattle.overlay.specs.Marks.{payload_moves, place_moves, range_of}
 use Rattle.overlay.specs.Payloads.{stream_of}
-use Rattle.overlay.specs.Runs.{ends, at, painted}
-use Rattle.overlay.specs.Walks.{shifted, Left, Even}
+use Rattle.overlay.specs.Runs.{run_end, at, run_states}
+use Rattle.overlay.specs.Walks.{moved_state, Left, Even}
 use Rattle.stream.specs.Meaning.{Cell}
 use Rattle.stream.specs.Parts.{cell_of, parts_cells}
 use Rattle.stream.specs.Difference.{byte_over, payload_at}
-use Rattle.join.specs.Lies.{Placed, AllPlaced}
-use Rattle.join.specs.Parts.{Ranged, Held, held_bytes}
+use Rattle.stream.proofs.Ranged.{length_cells}
+use Rattle.join.specs.Lies.{ByteThere, AllPlaced}
+use Rattle.join.specs.Parts.{Ranged, PayloadThere, named_bytes}
 
 -- the payload of some positions and of those after them
 payload_on : (ds : List (Option Cell)) (o a b : ℕ) → payload_at ds o (a + b) ≡ payload_at ds o a ++ payload_at ds (o + a) b
@@ -38,13 +39,10 @@ pub length_payload : (ds : List (Option Cell)) (o n : ℕ) → o + n ≤ length 
 length_payload ds o n h = simp (length-map, length-take, length-drop) (omega arith)
 
 module _ (earlier later : List ℕ) (parts : List (Run PayloadMark)) (size : ℕ) where
-  pub length_cells : length (parts_cells earlier later parts size) ≡ size
-  length_cells = length-map (painted payload_moves parts size) (option_map (cell_of earlier later)) ∙ length-map-range_with_len (at payload_moves parts) 0 size
-
   pub cells_at : (p : ℕ) → p < size → get_or (parts_cells earlier later parts size) p None ≡ option_map (cell_of earlier later) (at payload_moves parts p)
   cells_at p h =
-      let l : p < length (painted payload_moves parts size) = omega (arith, length-map-range_with_len (at payload_moves parts) 0 size) in
-      get_or-map (option_map (cell_of earlier later)) (painted payload_moves parts size) p None None l
+      let l : p < length (run_states payload_moves parts size) = omega (arith, length-map-range_with_len (at payload_moves parts) 0 size) in
+      get_or-map (option_map (cell_of earlier later)) (run_states payload_moves parts size) p None None l
       ∙ ap (option_map (cell_of earlier later)) (get_or-map-range_with_len (at payload_moves parts) 0 size p p None h (omega arith))
 
   -- positions that name the bytes of a stream one after another have these as payload
@@ -91,14 +89,14 @@ held_whole place n l some fits each =
 module _ (earlier later : List ℕ) (parts : List (Run PayloadMark)) (size : ℕ) (placed : AllPlaced earlier later parts size) (short : length earlier < 2 ^ 64) (brief : length later < 2 ^ 64) where
   -- a state of a written position: its bytes lie in a stream, and are the payload
   pub record Found (s : Option PayloadMark) (pos n : ℕ) : Type 0 where
-    pub held : Held earlier later s n
-    pub is : payload_at (parts_cells earlier later parts size) pos n ≡ held_bytes earlier later s n
+    pub held : PayloadThere earlier later s n
+    pub is : payload_at (parts_cells earlier later parts size) pos n ≡ named_bytes earlier later s n
 
   fits : (side : Side) → length (stream_of earlier later side) < 2 ^ 64
   fits Earlier = short
   fits Later = brief
 
-  found : (s : Option PayloadMark) (pos n : ℕ) → 0 < n → pos + n ≤ size → ((p : ℕ) → pos ≤ p → p < pos + n → at payload_moves parts p ≡ shifted payload_moves s (p - pos))
+  found : (s : Option PayloadMark) (pos n : ℕ) → 0 < n → pos + n ≤ size → ((p : ℕ) → pos ≤ p → p < pos + n → at payload_moves parts p ≡ moved_state payload_moves s (p - pos))
       → option_map range_of (at payload_moves parts pos) ≡ Some range.Written → Found s pos n
   found None pos n some under same w =
       let e : ◌≡◌ {A = Option RangeMark} None (Some range.Written) = ap (option_map range_of) (sym (same pos (omega arith) (omega arith))) ∙ w in
@@ -115,7 +113,7 @@ module _ (earlier later : List ℕ) (parts : List (Run PayloadMark)) (size : ℕ
       same (pos + k) a b ∙ ap (λ j. Some (Written side (place_moves place j))) d in
       let each : (k : ℕ) → k < n → place_moves place k < length s = λ k h.
       let u : pos + k < size = omega arith in
-      subst (Placed earlier later) (on k h) (placed (pos + k) u) in
+      subst (ByteThere earlier later) (on k h) (placed (pos + k) u) in
       let l = held_whole place n (length s) some (fits side) each in
       let f = fits side in
       record {
@@ -126,11 +124,11 @@ module _ (earlier later : List ℕ) (parts : List (Run PayloadMark)) (size : ℕ
 
   -- what the parts say from a position of a written range on
   pub piece_found : (r : Run RangeMark) (pos stop : ℕ) (piece : Piece PayloadMark) → Even payload_moves (at payload_moves parts) pos size piece → Ranged parts size r → r.mark ≡ range.Written
-      → r.offset ≤ pos → pos < stop → stop ≤ piece.stop → stop ≤ ends r → Found piece.state pos (stop - pos)
+      → r.offset ≤ pos → pos < stop → stop ≤ piece.stop → stop ≤ run_end r → Found piece.state pos (stop - pos)
   piece_found r pos stop piece even alike kind a b d e =
       let some : 0 < stop - pos = omega arith in
       let u : pos + (stop - pos) ≤ size = omega (arith, even.under) in
-      let in-run : pos < ends r = omega arith in
+      let in-run : pos < run_end r = omega arith in
       found piece.state pos (stop - pos) some u
       (λ p x y. let z : p < piece.stop = omega arith in even.same p x z)
       (alike.alike pos a in-run ∙ ap Some kind)

@@ -9,17 +9,17 @@ use Rattle.overlay.specs.Payloads.{stream_of}
 use Rattle.overlay.specs.Runs.{at}
 
 -- the byte that a state names is in its stream
-abbrev pub Placed : List ℕ → List ℕ → Option PayloadMark → Type 0
-Placed earlier later None = Unit {0}
-Placed earlier later (Some Zeroed) = Unit {0}
-Placed earlier later (Some (Written side place)) = place < length (stream_of earlier later side)
+abbrev pub ByteThere : List ℕ → List ℕ → Option PayloadMark → Type 0
+ByteThere earlier later None = Unit {0}
+ByteThere earlier later (Some Zeroed) = Unit {0}
+ByteThere earlier later (Some (Written side place)) = place < length (stream_of earlier later side)
 
 -- each byte below a size that parts name is in its stream
 abbrev pub AllPlaced : List ℕ → List ℕ → List (Run PayloadMark) → ℕ → Type 0
-AllPlaced earlier later parts size = (p : ℕ) → p < size → Placed earlier later (at payload_moves parts p)
+AllPlaced earlier later parts size = (p : ℕ) → p < size → ByteThere earlier later (at payload_moves parts p)
 
 -- that a byte is there can be shown in one way only, so that a value can keep it
-placed_prop : (earlier later : List ℕ) (state : Option PayloadMark) → IsProp (Placed earlier later state)
+placed_prop : (earlier later : List ℕ) (state : Option PayloadMark) → IsProp (ByteThere earlier later state)
 placed_prop earlier later None = Unit-prop
 placed_prop earlier later (Some Zeroed) = Unit-prop
 placed_prop earlier later (Some (Written side place)) = le_prop

@@ -1,12 +1,13 @@
-ghost use Rattle.std.specs.Prelude.{◌≡◌, ◌≤◌, ◌++◌, length, drop};
-ghost use Rattle.fault.specs.Fault.{then};
+ghost use Rattle.std.specs.Prelude.{◌≡◌, ◌≤◌, length};
+ghost use Rattle.fault.specs.Fault.{and_then};
 ghost use Rattle.fault.specs.declared.kinds.Layer.TheVariants as layers;
-ghost use Rattle.stream.specs.Buffers.{filling, filled_by};
+ghost use Rattle.stream.specs.Bytes.{buffer_with};
+ghost use Rattle.stream.specs.Buffers.{written_answer, written_buffer_by};
+ghost use Rattle.stream.specs.Difference.{canonical_bytes};
 ghost use Rattle.stream.specs.Meaning.{ranges};
 ghost use Rattle.stream.specs.Parts.{parts_cells};
-ghost use Rattle.stream.specs.Difference.{canonical};
+ghost use Rattle.join.specs.Joins.{pair_join, pair_stream};
 ghost use Rattle.join.specs.Lies.{AllPlaced};
-ghost use Rattle.join.specs.Joins.{limited, pair_join};
 
 use crate::pairs::Pair;
 use crate::parts::JoinedParts;
@@ -20,11 +21,13 @@ use stream::MOST_RECORDS;
 const MOST_PARTS: usize = 2 * (MOST_RECORDS + MOST_RECORDS) + 2;
 
 impl<'s, 'r> Pair<'s, 'r> {
-    // The parts of a join's payload, which go to the front of `out`.
+    // The parts of a join's payload, which lie in `out`.
     fn join_parts<'p>(self, out: &'p mut [Run<PayloadMark>; MOST_PARTS]) -> Sheet<'p, PayloadMark>
         ensures size { result.size ≡ self.entry.later.sheet.size }
-        ensures placed { AllPlaced self.entry.earlier.bytes.now self.entry.later.bytes.now result.runs.now result.size }
-        ensures cells { parts_cells self.entry.earlier.bytes.now self.entry.later.bytes.now result.runs.now result.size ≡ (pair_join self.entry).cells }
+        ensures placed { AllPlaced self.entry.earlier.bytes.now self.entry.later.bytes.now
+            result.runs.now result.size }
+        ensures cells { parts_cells self.entry.earlier.bytes.now self.entry.later.bytes.now
+            result.runs.now result.size ≡ (pair_join self.entry).cells }
     {
         let Pair { earlier, later } = self;
         let count = overlay(earlier.sheet, later.sheet, out).unwrap();
@@ -34,11 +37,13 @@ impl<'s, 'r> Pair<'s, 'r> {
         }
     }
 
-    // Puts the parts of a join together to its canonical stream, at the front of `out`.
-    fn put_joined(self, records: &[Run<RangeMark>], out: &mut [u8])
+    /// Writes the canonical stream of a join, of which `records` are the ranges, into the first
+    /// bytes of `out`. The bytes after it stay.
+    #[tactic(auto, using(crate::proofs::Links::joined_room))]
+    pub fn write(self, records: &[Run<RangeMark>], out: &mut [u8])
         requires ranged { records.now ≡ ranges (pair_join self).cells }
-        requires room { length (canonical (pair_join self)) ≤ length out.old }
-        ensures { out.new ≡ canonical (pair_join self.entry) ++ drop (length (canonical (pair_join self.entry))) out.old }
+        requires room { length (canonical_bytes (pair_join self)) ≤ length out.old }
+        ensures { out.new ≡ buffer_with out.old 0 (canonical_bytes (pair_join self.entry)) }
     {
         let mut parts = [Run::<PayloadMark>::NONE; MOST_PARTS];
         let sheet = self.join_parts(&mut parts);
@@ -53,20 +58,12 @@ impl<'s, 'r> Pair<'s, 'r> {
         put_stream(joined, records, out);
     }
 
-    // Writes the canonical stream of a join, of which `records` are the ranges, to the front of `out`.
-    pub fn write(self, records: &[Run<RangeMark>], out: &mut [u8])
-        requires ranged { records.now ≡ ranges (pair_join self).cells }
-        requires room { length (canonical (pair_join self)) ≤ length out.old }
-        ensures { out.new ≡ canonical (pair_join self.entry) ++ drop (length (canonical (pair_join self.entry))) out.old }
-    {
-        self.put_joined(records, out);
-    }
-
-    // Writes the join of two sources to the front of `out` and tells its length; refuses more than 512
-    // canonical records, and then a buffer that is too short. A refusal leaves the buffer alone.
+    // Writes the join of two streams into the first bytes of `out` and returns its length. Refuses
+    // more than 512 canonical records, and then a buffer that is too short, which is left alone.
     pub(crate) fn join(self, out: &mut [u8]) -> Result<usize, Fault>
-        ensures result { result ≡ then (limited (pair_join self.entry) (canonical (pair_join self.entry))) (λ bytes. filling layers.Join out.old bytes) }
-        ensures buffer { out.new ≡ filled_by (limited (pair_join self.entry) (canonical (pair_join self.entry))) out.old }
+        ensures result { result ≡
+            and_then (pair_stream self.entry) (λ bytes. written_answer layers.Join out.old bytes) }
+        ensures buffer { out.new ≡ written_buffer_by (pair_stream self.entry) out.old }
     {
         let mut records = [Run::<RangeMark>::NONE; MOST_RECORDS];
         let plan = self.plan(&mut records)?;

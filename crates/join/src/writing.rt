@@ -1,36 +1,39 @@
 ghost use Rattle.std.specs.Prelude.{◌≡◌, ◌+◌, ◌≤◌, map, length};
 ghost use Rattle.overlay.specs.declared.ranges.RangeMark.TheVariants.{Written};
-ghost use Rattle.overlay.specs.Runs.{ends, Rising};
-ghost use Rattle.stream.specs.Bytes.{patched};
-ghost use Rattle.stream.specs.Records.{encoded, encodings};
+ghost use Rattle.overlay.specs.Runs.{run_end, Rising};
+ghost use Rattle.stream.specs.Bytes.{buffer_with};
+ghost use Rattle.stream.specs.Records.{record_bytes, records_bytes};
 ghost use Rattle.stream.specs.Meaning.{ranges};
-ghost use Rattle.stream.specs.Difference.{payload_at, content_of, canonical};
+ghost use Rattle.stream.specs.Difference.{payload_at, content_of, canonical_bytes};
 ghost use Rattle.join.specs.Lengths.{record_length, records_length, stream_length};
-ghost use Rattle.join.specs.Parts.{Held, held_bytes, joined_cells, joined_difference, LeftOf, Ranged, AllRanged};
+ghost use Rattle.join.specs.Parts.{PayloadThere, named_bytes, joined_cells, joined_difference, LeftOf, Ranged, AllRanged};
 
 use crate::lengths::record_length;
 use crate::parts::JoinedParts;
-use overlay::{PayloadMark, RangeMark, Run, Sheet, part};
-use writer::{Heading, put_bytes, put_range, put_u8};
+use overlay::{PayloadMark, RangeMark, Run, Sheet, payload};
+use writer::{Heading, RANGE_HEAD, put_bytes, put_range, put_u8};
 
-// Writes the bytes that a state names at the front.
+// Writes the bytes that a state names into the first bytes.
 fn put_part(joined: JoinedParts, state: Option<PayloadMark>, count: usize, tail: &mut [u8])
-    requires held { Held joined.earlier.now joined.later.now state count }
+    requires held { PayloadThere joined.earlier.now joined.later.now state count }
     requires room { count ≤ length tail.old }
-    ensures { tail.new ≡ patched tail.old 0 (held_bytes joined.entry.earlier.now joined.entry.later.now state count) }
+    ensures { tail.new ≡ buffer_with tail.old 0
+        (named_bytes joined.entry.earlier.now joined.entry.later.now state count) }
 {
-    let Some(PayloadMark::Written(side, place)) = state else {
-        unreachable()
+    let Some(mark) = state else { unreachable() };
+    let run = Run {
+        offset: 0,
+        length: count as u64,
+        mark,
     };
-    let Some(bytes) = part(joined.earlier, joined.later, side, place as usize, count) else {
+    let Some((_, bytes)) = payload(joined.earlier, joined.later, run) else {
         unreachable()
     };
     put_bytes(tail, bytes);
 }
 
-// Writes the payload of a written range at the front, part by part. No part outside `left` reaches the
-// range; the answer are the parts that are left behind it. (No `for`: each piece tells how far it
-// reaches.)
+// Writes the payload of a written range into the first bytes, part by part. No part outside `left`
+// reaches the range. Returns the parts that are left after it.
 fn put_payload<'r>(
     joined: JoinedParts,
     left: Sheet<'r, PayloadMark>,
@@ -41,8 +44,9 @@ fn put_payload<'r>(
     requires alike { Ranged joined.sheet.runs.now joined.sheet.size run }
     requires kind { run.mark ≡ Written }
     requires room { run.length ≤ length tail.old }
-    ensures left { LeftOf joined.entry.sheet (ends run) result }
-    ensures buffer { tail.new ≡ patched tail.old 0 (payload_at (joined_cells joined.entry) run.offset run.length) }
+    ensures left { LeftOf joined.entry.sheet (run_end run) result }
+    ensures buffer { tail.new ≡ buffer_with tail.old 0
+        (payload_at (joined_cells joined.entry) run.offset run.length) }
 {
     let end = run.end();
     let mut rest = left;
@@ -63,7 +67,7 @@ fn put_payload<'r>(
     rest
 }
 
-// Writes the record of a range at the front; `left` and the answer are as for its payload.
+// Writes the record of a range into the first bytes; `left` and the result are as for its payload.
 fn put_record<'r>(
     joined: JoinedParts,
     left: Sheet<'r, PayloadMark>,
@@ -73,8 +77,9 @@ fn put_record<'r>(
     requires left { LeftOf joined.sheet run.offset left }
     requires alike { Ranged joined.sheet.runs.now joined.sheet.size run }
     requires room { record_length run ≤ length tail.old }
-    ensures left { LeftOf joined.entry.sheet (ends run) result }
-    ensures buffer { tail.new ≡ patched tail.old 0 (encoded (content_of (joined_cells joined.entry) run)) }
+    ensures left { LeftOf joined.entry.sheet (run_end run) result }
+    ensures buffer { tail.new ≡ buffer_with tail.old 0
+        (record_bytes (content_of (joined_cells joined.entry) run)) }
 {
     match run.mark {
         RangeMark::Zeroed => {
@@ -83,12 +88,12 @@ fn put_record<'r>(
         }
         RangeMark::Written => {
             put_range(tail, b'w', run.offset, run.length);
-            put_payload(joined, left, run, &mut tail[17..])
+            put_payload(joined, left, run, &mut tail[RANGE_HEAD..])
         }
     }
 }
 
-// Writes the records of ranges from `start` on, and tells where they end.
+// Writes the records of ranges from `start` on, and returns where they end.
 fn put_records(
     joined: JoinedParts,
     records: &[Run<RangeMark>],
@@ -99,7 +104,8 @@ fn put_records(
     requires alike { AllRanged joined.sheet.runs.now joined.sheet.size records.now }
     requires room { start + records_length records.now ≤ length out.old }
     ensures end { result ≡ start + records_length records.now }
-    ensures buffer { out.new ≡ patched out.old start (encodings (map (content_of (joined_cells joined.entry)) records.now)) }
+    ensures buffer { out.new ≡ buffer_with out.old start
+        (records_bytes (map (content_of (joined_cells joined.entry)) records.now)) }
 {
     let mut at = start;
     let mut left = joined.sheet;
@@ -110,11 +116,12 @@ fn put_records(
     at
 }
 
-// Writes the canonical stream of a join, of which `records` are the ranges, to the front of `out`.
+// Writes the canonical stream of a difference, of which `records` are the ranges, into the first
+// bytes of `out`.
 pub(crate) fn put_stream(joined: JoinedParts, records: &[Run<RangeMark>], out: &mut [u8])
     requires ranged { records.now ≡ ranges (joined_cells joined) }
     requires room { stream_length joined.from.now joined.to.now records.now ≤ length out.old }
-    ensures { out.new ≡ patched out.old 0 (canonical (joined_difference joined.entry)) }
+    ensures { out.new ≡ buffer_with out.old 0 (canonical_bytes (joined_difference joined.entry)) }
 {
     let heading = Heading {
         from: joined.from,

@@ -8,7 +8,7 @@ use Rattle.std.proofs.lemmas.Bool.{cases_lt}
 use Rattle.overlay.specs.declared.runs.Run.{Run}
 use Rattle.overlay.specs.declared.ranges.RangeMark.{RangeMark}
 use Rattle.overlay.specs.Marks.{range_moves, range_alike}
-use Rattle.overlay.specs.Runs.{ends, at, Rising, Apart, Runs}
+use Rattle.overlay.specs.Runs.{run_end, at, Rising, Apart, Runs}
 use Rattle.overlay.specs.Laws.{RunsExist}
 use Rattle.overlay.specs.States.{over}
 use Rattle.overlay.proofs.Painted.{run_inside, run_before, run_after, at_before, at_after, none_some, some_same}
@@ -25,32 +25,32 @@ module _ (kinds : ℕ → Option RangeMark) where
   Starts [] = Unit {0}
   Starts (r ∷ rs) = (p : ℕ) → p + 1 ≡ r.offset → kinds p ≡ Some r.mark → ⊥
 
-  inside : (r : Run RangeMark) (rs : List (Run RangeMark)) (p : ℕ) → r.offset ≤ p → p < ends r → runs_at (r ∷ rs) p ≡ Some r.mark
+  inside : (r : Run RangeMark) (rs : List (Run RangeMark)) (p : ℕ) → r.offset ≤ p → p < run_end r → runs_at (r ∷ rs) p ≡ Some r.mark
   inside r rs p h l = ap (λ t. over t (runs_at rs p)) (run_inside range_moves r p h l)
 
-  past : (r : Run RangeMark) (rs : List (Run RangeMark)) (p : ℕ) → ends r ≤ p → runs_at (r ∷ rs) p ≡ runs_at rs p
+  past : (r : Run RangeMark) (rs : List (Run RangeMark)) (p : ℕ) → run_end r ≤ p → runs_at (r ∷ rs) p ≡ runs_at rs p
   past r rs p h = ap (λ t. over t (runs_at rs p)) (run_after range_moves r p h)
 
   -- behind a run its kind does not go on
-  stops_here : (r : Run RangeMark) (rs : List (Run RangeMark)) (n : ℕ) → Rising (ends r) rs n → Apart range_moves (r ∷ rs) → runs_at rs (ends r) ≡ Some r.mark → ⊥
+  stops_here : (r : Run RangeMark) (rs : List (Run RangeMark)) (n : ℕ) → Rising (run_end r) rs n → Apart range_moves (r ∷ rs) → runs_at rs (run_end r) ≡ Some r.mark → ⊥
   stops_here r [] n h a e = none_some None refl e
   stops_here r (s ∷ rs) n h a e =
-      elim (cases_lt (ends r) s.offset) [
-        | inl l ↦ none_some (runs_at (s ∷ rs) (ends r)) (at_before range_moves s.offset n (s ∷ rs) (ends r) (omega arith, h.1, h.2) l) e
+      elim (cases_lt (run_end r) s.offset) [
+        | inl l ↦ none_some (runs_at (s ∷ rs) (run_end r)) (at_before range_moves s.offset n (s ∷ rs) (run_end r) (omega arith, h.1, h.2) l) e
         | inr l ↦
-            let t : ends r ≡ s.offset = let g = h.0 in omega arith in
-            let f = inside s rs (ends r) l (let g = h.1 in omega arith) in
-            a.0 t (some_same r.mark s.mark (runs_at (s ∷ rs) (ends r)) e f)
+            let t : run_end r ≡ s.offset = let g = h.0 in omega arith in
+            let f = inside s rs (run_end r) l (let g = h.1 in omega arith) in
+            a.0 t (some_same r.mark s.mark (runs_at (s ∷ rs) (run_end r)) e f)
       ]
 
-  starts_next : (r : Run RangeMark) (rs : List (Run RangeMark)) (n : ℕ) → 1 ≤ r.length → Rising (ends r) rs n → Apart range_moves (r ∷ rs)
+  starts_next : (r : Run RangeMark) (rs : List (Run RangeMark)) (n : ℕ) → 1 ≤ r.length → Rising (run_end r) rs n → Apart range_moves (r ∷ rs)
       → ((p : ℕ) → r.offset ≤ p → kinds p ≡ runs_at (r ∷ rs) p) → Starts rs
   starts_next r [] n some h a k = tt
   starts_next r (s ∷ rs) n some h a k = λ p e f.
-      elim (cases_lt p (ends r)) [
+      elim (cases_lt p (run_end r)) [
         | inl l ↦
             let g = h.0 in
-            let t : ends r ≡ s.offset = omega arith in
+            let t : run_end r ≡ s.offset = omega arith in
             let low : r.offset ≤ p = omega arith in
             a.0 t (some_same r.mark s.mark (kinds p) (k p low ∙ inside r (s ∷ rs) p low l) f)
         | inr l ↦
@@ -67,10 +67,10 @@ module _ (kinds : ℕ → Option RangeMark) where
       let here : (q : ℕ) → r.offset ≤ q → kinds q ≡ runs_at (r ∷ rs) q = λ q l. k q (omega arith) in (
         record {
           alike = λ q l m. here q l ∙ inside r rs q l m;
-          stops = λ e. stops_here r rs n h.2 p (sym (past r rs (ends r) (omega arith)) ∙ sym (here (ends r) (omega arith)) ∙ e);
+          stops = λ e. stops_here r rs n h.2 p (sym (past r rs (run_end r) (omega arith)) ∙ sym (here (run_end r) (omega arith)) ∙ e);
           starts = s;
         },
-        each_longest rs (ends r) n h.2 p.1 (λ q l. here q (omega arith) ∙ past r rs q l) (starts_next r rs n h.1 h.2 p here),
+        each_longest rs (run_end r) n h.2 p.1 (λ q l. here q (omega arith) ∙ past r rs q l) (starts_next r rs n h.1 h.2 p here),
       )
 
 missed : (rs : List (Run RangeMark)) (p : ℕ) → AllByRecursion (Missed p) rs → runs_at rs p ≡ None

@@ -1,4 +1,5 @@
--- The text of ranges: a first line, and a line for each range. Rests on overlay's runs and range marks, and on std's decimal numbers.
+-- The text of ranges: a first line, and a line for each range. Rests on overlay's runs and range
+-- marks, and on std's decimal numbers.
 use Rattle.std.specs.Prelude.{ℕ, List, [], ◌∷◌, ◌++◌, codes, decimal}
 use Rattle.overlay.specs.declared.runs.Run.{Run}
 use Rattle.overlay.specs.declared.ranges.RangeMark.{RangeMark}
@@ -13,7 +14,7 @@ abbrev pub kind_text : RangeMark → List ℕ
 kind_text Zeroed = codes "zero"
 kind_text Written = codes "data"
 
--- a space, the kind, and the line's end
+-- the rest of a line after its numbers: a space, the kind, and the line's end
 abbrev pub line_end : RangeMark → List ℕ
 line_end m = 32 ∷ (kind_text m ++ (10 ∷ []))
 

@@ -1,7 +1,8 @@
 ghost use Rattle.std.specs.Prelude.{◌≡◌, ◌+◌, ◌≤◌, length, decimal};
 ghost use Rattle.fault.specs.declared.kinds.Layer.TheVariants.{Stream};
-ghost use Rattle.stream.specs.Buffers.{filling, filled};
-ghost use Rattle.stream.specs.Bytes.{patched};
+ghost use Rattle.stream.specs.Buffers.{written_answer, written_buffer};
+ghost use Rattle.stream.specs.declared.kinds.TheConstants.{MOST_RECORDS};
+ghost use Rattle.stream.specs.Bytes.{buffer_with};
 ghost use Rattle.listing.specs.Text.{line_end, line, listing};
 
 use fault::{Cause, Fault};
@@ -9,9 +10,13 @@ use itoa::Buffer;
 use overlay::{RangeMark, Run};
 use writer::{put_bytes, put_u8};
 
+// The first line.
 const HEADING: &[u8] = b"offset length kind\n";
 
-// How many digits a number has.
+// The end of each line: a space, a kind of four letters, and a line feed.
+const LINE_END: usize = 6;
+
+// The number of digits of a number in decimal.
 fn digits(n: u64) -> usize
     ensures exact { result ≡ length (decimal n) }
     ensures few { result ≤ 20 }
@@ -19,11 +24,11 @@ fn digits(n: u64) -> usize
     Buffer::new().format(n).len()
 }
 
-// Writes a number at the front, and tells how many bytes it took.
+// Writes a number into the first bytes, and returns how many it took.
 fn put_number(tail: &mut [u8], n: u64) -> usize
     requires { length (decimal n) ≤ length tail.old }
     ensures taken { result ≡ length (decimal n) }
-    ensures buffer { tail.new ≡ patched tail.old 0 (decimal n) }
+    ensures buffer { tail.new ≡ buffer_with tail.old 0 (decimal n) }
 {
     let mut buffer = Buffer::new();
     let text = buffer.format(n).as_bytes();
@@ -31,10 +36,10 @@ fn put_number(tail: &mut [u8], n: u64) -> usize
     text.len()
 }
 
-// Writes a space, the kind, and the line's end.
+// Writes the rest of a line after its numbers: a space, the kind, and the line's end.
 fn put_kind(tail: &mut [u8], mark: RangeMark)
-    requires { 6 ≤ length tail.old }
-    ensures { tail.new ≡ patched tail.old 0 (line_end mark) }
+    requires { LINE_END ≤ length tail.old }
+    ensures { tail.new ≡ buffer_with tail.old 0 (line_end mark) }
 {
     match mark {
         RangeMark::Zeroed => put_bytes(tail, b" zero\n"),
@@ -42,32 +47,31 @@ fn put_kind(tail: &mut [u8], mark: RangeMark)
     }
 }
 
-// The bytes that a range's line takes.
+// The length of a range's line: two numbers, a space, and the end of the line.
 fn line_length(run: Run<RangeMark>) -> usize
     ensures exact { result ≡ length (line run) }
     ensures short { result ≤ 47 }
 {
-    digits(run.offset) + digits(run.length) + 7
+    digits(run.offset) + 1 + digits(run.length) + LINE_END
 }
 
-// Writes a range's line, and tells how many bytes it took.
+// Writes a range's line into the first bytes, and returns how many it took.
 fn put_line(tail: &mut [u8], run: Run<RangeMark>) -> usize
     requires { length (line run) ≤ length tail.old }
     ensures taken { result ≡ length (line run) }
-    ensures buffer { tail.new ≡ patched tail.old 0 (line run) }
+    ensures buffer { tail.new ≡ buffer_with tail.old 0 (line run) }
 {
     let space = put_number(tail, run.offset);
     put_u8(&mut tail[space..], b' ');
     let at = space + 1;
     let kind = at + put_number(&mut tail[at..], run.length);
     put_kind(&mut tail[kind..], run.mark);
-    kind + 6
+    kind + LINE_END
 }
 
-// The bytes that the text takes. (By a loop: tried with `sum`, whose own question, whether the sum fits its
-// type, the check does not answer.)
+// The length of the whole text.
 fn text_length(ranges: &[Run<RangeMark>]) -> usize
-    requires { length ranges.now ≤ 1026 }
+    requires { length ranges.now ≤ MOST_RECORDS }
     ensures { result ≡ length (listing ranges.now) }
 {
     let mut total = HEADING.len();
@@ -77,10 +81,10 @@ fn text_length(ranges: &[Run<RangeMark>]) -> usize
     total
 }
 
-// Writes the text at the front of a buffer that has room for it.
+// Writes the text into the first bytes of a buffer that has room for it.
 fn put_text(out: &mut [u8], ranges: &[Run<RangeMark>])
     requires { length (listing ranges.now) ≤ length out.old }
-    ensures { out.new ≡ patched out.old 0 (listing ranges.now) }
+    ensures { out.new ≡ buffer_with out.old 0 (listing ranges.now) }
 {
     put_bytes(out, HEADING);
     let mut at = HEADING.len();
@@ -89,11 +93,12 @@ fn put_text(out: &mut [u8], ranges: &[Run<RangeMark>])
     }
 }
 
-// Writes the text of ranges to the front of a buffer, and tells its length.
+/// Writes the text of ranges into the first bytes of a buffer, and returns its length. Refused
+/// where the buffer is too short, with the length needed as the place.
 pub fn write_text(ranges: &[Run<RangeMark>], out: &mut [u8]) -> Result<usize, Fault>
-    requires { length ranges.now ≤ 1026 }
-    ensures result { result ≡ filling Stream out.old (listing ranges.now) }
-    ensures buffer { out.new ≡ filled out.old (listing ranges.now) }
+    requires { length ranges.now ≤ MOST_RECORDS }
+    ensures result { result ≡ written_answer Stream out.old (listing ranges.now) }
+    ensures buffer { out.new ≡ written_buffer out.old (listing ranges.now) }
 {
     let needed = text_length(ranges);
     if out.len() < needed {

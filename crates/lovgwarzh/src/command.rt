@@ -1,4 +1,6 @@
-// What the words of the command line ask for.
+use crate::paths::{ApplyPaths, JoinPaths};
+
+/// What the words of the command line ask for.
 #[derive(Drop)]
 pub enum Command<'a> {
     Check {
@@ -8,20 +10,18 @@ pub enum Command<'a> {
         file: &'a str,
     },
     Join {
-        earlier: &'a str,
-        later: &'a str,
+        paths: JoinPaths<'a>,
         out: &'a str,
     },
     Apply {
-        stream: &'a str,
+        paths: ApplyPaths<'a>,
         name: &'a str,
-        image: &'a str,
     },
     Tour,
     Help,
 }
 
-// How to call the program.
+/// How to call the program.
 pub const USAGE: &str = "usage: lovgwarzh COMMAND
 
   check FILE                 tells whether FILE is a difference stream, with its names and size
@@ -36,8 +36,8 @@ A command that is refused, or cannot read or write a file, says why on standard 
 status 1, and leaves OUT and IMAGE as they were. Files are held in memory, up to 4 GiB each.
 ";
 
-// The command that the words behind the program's name ask for; None where there are none, or they name
-// none, or are too few or too many.
+/// The command that the words after the program's name ask for. None where there are no words, or
+/// they name no command, or are too few or too many for it.
 pub fn parse(words: &[String]) -> Option<Command<'_>> {
     let [name, rest @ ..] = words else {
         return None;
@@ -50,14 +50,18 @@ pub fn parse(words: &[String]) -> Option<Command<'_>> {
             file: file.as_str(),
         }),
         ("join", [earlier, later, out]) => Some(Command::Join {
-            earlier: earlier.as_str(),
-            later: later.as_str(),
+            paths: JoinPaths {
+                earlier: earlier.as_str(),
+                later: later.as_str(),
+            },
             out: out.as_str(),
         }),
         ("apply", [stream, name, image]) => Some(Command::Apply {
-            stream: stream.as_str(),
+            paths: ApplyPaths {
+                stream: stream.as_str(),
+                image: image.as_str(),
+            },
             name: name.as_str(),
-            image: image.as_str(),
         }),
         ("tour", []) => Some(Command::Tour),
         ("help" | "--help" | "-h", []) => Some(Command::Help),

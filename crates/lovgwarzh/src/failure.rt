@@ -1,12 +1,43 @@
+ghost use Rattle.std.specs.Prelude.{◌≡◌};
+
 use fault::Fault;
 use std::alloc::{AllocError, Global};
-use std::{fmt, io};
+use std::io;
 use thiserror::Error;
 
-// What is wrong with a file.
+/// Why a call on the bytes of files ends without its result.
+#[derive(Debug, Drop)]
+pub enum CallError {
+    // a call of the library was refused
+    Refused(Fault),
+    // there is not enough memory
+    Memory(AllocError),
+}
+
+impl From<Fault> for CallError {
+    ghost use Rattle.lovgwarzh.specs.declared.failure.CallError.TheVariants.{Refused};
+
+    ghost from_gives = { λ fault error. error ≡ Refused fault };
+
+    fn from(fault: Fault) -> CallError {
+        CallError::Refused(fault)
+    }
+}
+
+impl From<AllocError> for CallError {
+    ghost use Rattle.lovgwarzh.specs.declared.failure.CallError.TheVariants.{Memory};
+
+    ghost from_gives = { λ e error. error ≡ Memory e };
+
+    fn from(error: AllocError) -> CallError {
+        CallError::Memory(error)
+    }
+}
+
+/// What is wrong with a file.
 #[derive(Debug, Drop, Error)]
 pub enum Trouble {
-    // a call was refused, over what the file holds
+    // a call was refused, because of what the file holds
     #[error("refused: {0}")]
     Refused(#[from] Fault),
     // the file cannot be read or written
@@ -14,7 +45,7 @@ pub enum Trouble {
     File(#[from] io::Error),
 }
 
-// Why a command ends without its result.
+/// Why a command ends without its result.
 #[derive(Debug, Drop, Error)]
 pub enum Failure {
     // the words are no command
@@ -35,14 +66,9 @@ pub enum Failure {
 }
 
 impl Failure {
-    // The trouble, told with the path of the file that it is about. (A match, since either way it is a
-    // failure: there is no result that `?` could hand on.)
-    pub fn about(
-        heap: Global,
-        path: impl fmt::Display + Drop,
-        trouble: impl Into<Trouble> + Drop,
-    ) -> Failure {
-        match path.to_string(heap) {
+    /// The trouble with the file at a path; the path's text may have failed to get memory.
+    pub fn about(path: Result<String, AllocError>, trouble: impl Into<Trouble> + Drop) -> Failure {
+        match path {
             Ok(path) => Failure::About {
                 path,
                 trouble: trouble.into(),
@@ -50,15 +76,29 @@ impl Failure {
             Err(error) => Failure::Memory(error),
         }
     }
+
+    /// The failure of a call, where `path` gives the path that a refusal is about.
+    pub fn of_call<F: FnOnce(Fault) -> Result<String, AllocError>>(
+        error: CallError,
+        path: F,
+    ) -> Failure
+        requires { F.IsAlwaysCallable path }
+    {
+        match error {
+            CallError::Refused(fault) => Failure::about(path(fault), fault),
+            CallError::Memory(error) => Failure::Memory(error),
+        }
+    }
 }
 
-// A result whose trouble, if it has one, is told with the path of a file: `check(&stream).about(heap, path)?`.
+/// A result whose trouble, if it has one, gets the path of a file: `check(&stream).about(heap,
+/// path)?`.
 pub trait About<T> {
     fn about(self, heap: Global, path: &str) -> Result<T, Failure>;
 }
 
 impl<T, E: Into<Trouble> + Drop> About<T> for Result<T, E> {
     fn about(self, heap: Global, path: &str) -> Result<T, Failure> {
-        self.map_err(|error| Failure::about(heap, path, error))
+        self.map_err(|error| Failure::about(String::from_str(heap, path), error))
     }
 }

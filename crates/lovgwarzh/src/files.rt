@@ -1,14 +1,18 @@
+ghost use Rattle.std.specs.Prelude.{◌≤◌, IfOk, length};
+
 use crate::failure::{About, Failure};
 use std::fs::File;
 use std::io::{ErrorKind, Read, Write};
 use std::{fs, io};
 
-// The most bytes that are held in memory for one file.
+/// The most bytes that are held in memory for one file.
 pub const MOST_BYTES: u64 = 1 << 32;
 
-// The bytes of a file. One byte more than the most is asked for, so that a longer file, or a device
-// without an end, is told rather than cut.
-pub fn read_file(rt: &HostRuntime, path: &str) -> Result<Vec<u8>, Failure> {
+/// The bytes of a file. One byte more than the most is asked for, so that a longer file, or a
+/// device without an end, is an error and is not cut.
+pub fn read_file(rt: &HostRuntime, path: &str) -> Result<Vec<u8>, Failure>
+    ensures { IfOk result (λ bytes. length bytes.items ≤ «MOST_BYTES») }
+{
     let heap = rt.alloc();
     let file = File::open(rt, path).about(heap, path)?;
     let mut bytes = Vec::new(heap);
@@ -16,13 +20,13 @@ pub fn read_file(rt: &HostRuntime, path: &str) -> Result<Vec<u8>, Failure> {
     read.about(heap, path)?;
     if bytes.len() as u64 > MOST_BYTES {
         let error = io::Error::other("longer than 4 GiB");
-        return Err(Failure::about(heap, path, error));
+        return Err(Failure::about(String::from_str(heap, path), error));
     }
     Ok(bytes)
 }
 
-// Whether a file stands at a path. Anything else there, as a folder, a device or a link, is an error,
-// since another file is going to take the path's name. (A match, since of all errors one alone is an answer.)
+// Whether a file stands at a path. Anything else there, as a folder, a device or a link, is an
+// error, since another file is going to take the path's name.
 fn stands(rt: &HostRuntime, path: &str) -> io::Result<bool> {
     match fs::symlink_metadata(rt, path) {
         Ok(found) if found.is_file() => Ok(true),
@@ -32,7 +36,8 @@ fn stands(rt: &HostRuntime, path: &str) -> io::Result<bool> {
     }
 }
 
-// Fills a new file and gives it the name of the old one. The bytes reach the disk before the name does.
+// Fills a new file and gives it the name of the old one. The bytes reach the disk before the name
+// does.
 fn fill_and_rename(rt: &HostRuntime, new: &str, path: &str, bytes: &[u8]) -> io::Result<()> {
     if stands(rt, path)? {
         // A copy brings the old file's permissions along.
@@ -44,11 +49,11 @@ fn fill_and_rename(rt: &HostRuntime, new: &str, path: &str, bytes: &[u8]) -> io:
     fs::rename(rt, new, path)
 }
 
-// Writes a file, in place of one that may stand there. The bytes go to a new file beside it, which then
-// takes its name, so that the path leads to all of the old bytes or to all of the new ones, whenever
-// the program is stopped. A file that has the new one's name already is left alone and is an error:
-// another program may be writing it, or was stopped while it did. Left open: the folder is not synced,
-// and the file's owner becomes whoever runs the program.
+/// Writes a file, in place of one that may stand there. The bytes go to a new file beside it, which
+/// then takes its name, so that the path leads to all of the old bytes or to all of the new ones,
+/// whenever the program is stopped. A file that has the new one's name already is an error and is
+/// left as it is: another program may be writing it, or was stopped while it did. The folder is not
+/// synced, and the file's owner becomes whoever runs the program.
 pub fn write_file(rt: &HostRuntime, path: &str, bytes: &[u8]) -> Result<(), Failure> {
     let heap = rt.alloc();
     let new = format!(in heap; "{path}.tmp")?;

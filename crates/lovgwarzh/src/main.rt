@@ -1,4 +1,5 @@
-// The command line: difference streams in files are checked, listed, joined, and applied to an image.
+// The command line: difference streams in files are checked, listed, joined, and applied to an
+// image.
 #![tactic(auto)]
 
 use command::{Command, USAGE, parse};
@@ -8,29 +9,24 @@ use std::process::ExitCode;
 use std::{env, io};
 use tour::show_tour;
 
+mod bytes;
 mod command;
 mod commands;
 mod failure;
 mod files;
+mod names;
+mod paths;
 mod samples;
 mod series;
 mod tour;
 
-// Carries a command out. (A match: the commands are a closed list.)
+// Carries a command out.
 fn carry_out(rt: &HostRuntime, command: Command) -> Result<(), Failure> {
     match command {
         Command::Check { file } => check_file(rt, file),
         Command::List { file } => list_file(rt, file),
-        Command::Join {
-            earlier,
-            later,
-            out,
-        } => join_files(rt, earlier, later, out),
-        Command::Apply {
-            stream,
-            name,
-            image,
-        } => apply_to_file(rt, stream, name, image),
+        Command::Join { paths, out } => join_files(rt, paths, out),
+        Command::Apply { paths, name } => apply_to_file(rt, paths, name),
         Command::Tour => Ok(show_tour(rt)?),
         Command::Help => Ok(rt.print(USAGE)?),
     }
@@ -45,8 +41,8 @@ fn run(rt: &HostRuntime) -> Result<(), Failure> {
     }
 }
 
-// Tells a failure on standard error: of words that are no command, how to call the program.
-fn tell(rt: &HostRuntime, failure: &Failure) -> io::Result<()> {
+// Prints a failure on standard error; of words that are no command, how to call the program.
+fn print_failure(rt: &HostRuntime, failure: &Failure) -> io::Result<()> {
     match failure {
         Failure::Usage => rt.eprint(USAGE),
         _ => eprintln!(rt; "lovgwarzh: {failure}"),
@@ -57,8 +53,8 @@ fn main(rt: HostRuntime) -> ExitCode {
     match run(&rt) {
         Ok(()) => ExitCode::SUCCESS,
         Err(failure) => {
-            // Where standard error is closed there is nobody to tell.
-            let _ = tell(&rt, &failure);
+            // Where standard error is closed nothing can be said.
+            let _ = print_failure(&rt, &failure);
             ExitCode::FAILURE
         }
     }

@@ -2,13 +2,14 @@ use anyhow::anyhow;
 use fault::Fault;
 use writer::Opened;
 
-// What a record of a sample says of the image.
+/// A data record of a sample.
 pub enum Change {
     Data { offset: u64, bytes: &'static [u8] },
     Zero { offset: u64, length: u64 },
 }
 
-// A difference between two snapshots: their names, the image's size at the later one, and the records.
+/// A difference between two snapshots: their names, the image's size at the later one, and the
+/// records.
 pub struct Difference {
     pub from: &'static [u8],
     to: &'static [u8],
@@ -16,7 +17,7 @@ pub struct Difference {
     changes: &'static [Change],
 }
 
-// From `a` to `b`, an image of 10 bytes: four bytes from 2 on, two from 6 on, and a zero at 9.
+/// From `a` to `b`, an image of 10 bytes: four bytes from 2 on, two from 6 on, and a zero at 9.
 pub const SAMPLE: Difference = Difference {
     from: b"a",
     to: b"b",
@@ -37,7 +38,7 @@ pub const SAMPLE: Difference = Difference {
     ],
 };
 
-// From `a` to `b`: the image is cut to 4 bytes.
+/// From `a` to `b`: the image is cut to 4 bytes.
 pub const CUT: Difference = Difference {
     from: b"a",
     to: b"b",
@@ -45,7 +46,7 @@ pub const CUT: Difference = Difference {
     changes: &[],
 };
 
-// From `b` to `c`: the image grows to 10 bytes, and has `k` at 8.
+/// From `b` to `c`: the image grows to 10 bytes, and has `k` at 8.
 pub const GROWN: Difference = Difference {
     from: b"b",
     to: b"c",
@@ -56,7 +57,7 @@ pub const GROWN: Difference = Difference {
     }],
 };
 
-// A chain of four streams over an image of 768 bytes, three pages of 256.
+/// A chain of four streams over an image of 768 bytes, three pages of 256.
 pub const CHAIN: [Difference; 4] = [
     Difference {
         from: b"a",
@@ -104,7 +105,7 @@ pub const CHAIN: [Difference; 4] = [
 ];
 
 impl Difference {
-    // Writes the stream of the difference, and tells its length.
+    // Writes the stream of the difference and returns its length.
     fn write(&self, out: &mut [u8]) -> Result<usize, Fault> {
         let mut recording = Opened::new().names(out, self.from, self.to, self.size)?;
         for change in self.changes {
@@ -117,7 +118,7 @@ impl Difference {
         Ok(ended.length())
     }
 
-    // The stream of the difference; a refusal is said before it ends the tour.
+    /// The stream of the difference. A refusal is printed before it ends the tour.
     pub fn stream(&self, rt: &HostRuntime) -> anyhow::Result<Vec<u8>> {
         let mut out = vec![in rt.alloc(); 0u8; 128]?;
         let length = accepted(rt, self.write(&mut out))?;
@@ -126,8 +127,7 @@ impl Difference {
     }
 }
 
-// What a call of the tour answers; a refusal is said before it ends the tour. (`map_err` cannot print, since
-// printing may fail.)
+/// The value of a call of the tour. A refusal is printed before it ends the tour.
 pub fn accepted<T>(rt: &HostRuntime, answer: Result<T, Fault>) -> anyhow::Result<T> {
     match answer {
         Ok(x) => Ok(x),

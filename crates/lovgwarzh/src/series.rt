@@ -9,7 +9,7 @@ use shelf::Shelf;
 use std::io::Write;
 use store::{FlatImage, Store};
 
-// The shelf's bytes are handed in whole: a call takes all of them where there are no more.
+// A call gets all of the shelf's bytes.
 const WHOLE: usize = usize::MAX;
 
 // Where joined streams and the texts of the two lists stand in the series' buffer.
@@ -28,7 +28,7 @@ const LAST_TEXT: Window = Window {
     length: 64,
 };
 
-// A call of the series, and what it is.
+// A call of the series, and words for it.
 #[derive(Clone, Copy)]
 struct Step<'a> {
     words: &'static str,
@@ -89,12 +89,12 @@ fn list(handed: usize, entry: usize, text: Window) -> Request<'static> {
     }
 }
 
-// So many bytes of a buffer from a place on, or all where there are fewer.
+// The next `n` bytes of a buffer from a place on, or all where there are fewer.
 fn part(buffer: &[u8], start: usize, n: usize) -> &[u8] {
     front(buffer.get(start..).unwrap_or(&[]), n)
 }
 
-// Says what came of a call; of a list its text. (A match: the requests are a closed list.)
+// Prints the outcome of a call, and the text of a list.
 fn show_step(
     rt: &HostRuntime,
     step: &Step,
@@ -114,7 +114,7 @@ fn show_step(
     Ok(())
 }
 
-// The bytes of an image that the chain speaks of.
+// Prints the bytes of an image that the chain changes.
 fn show_pages<S: Store>(rt: &HostRuntime, what: &str, image: &S) -> anyhow::Result<()> {
     print!(rt; "{what}: ")?;
     show_bytes(rt, image, 0, 3)?;
@@ -133,7 +133,7 @@ fn fill_image<S: Store>(image: &mut S) -> Result<(), Fault> {
     image.write(256, b"p")
 }
 
-// Plays the series on a base image in a pool of two pages, and says what came of each call.
+// Plays the series on a base image in a pool of two pages, and prints the outcome of each call.
 fn play_series<S: Store>(
     rt: &HostRuntime,
     base: &mut S,
@@ -153,7 +153,7 @@ fn play_series<S: Store>(
     Ok(shelf)
 }
 
-// The four streams applied one after another to another image.
+// Applies the four streams one after another to another image.
 fn apply_chain<S: Store>(image: &mut S, chain: [&[u8]; 4]) -> Result<(), Fault> {
     for (stream, difference) in chain.iter().zip(&CHAIN) {
         apply(stream, difference.from, image)?;
@@ -161,7 +161,7 @@ fn apply_chain<S: Store>(image: &mut S, chain: [&[u8]; 4]) -> Result<(), Fault> 
     Ok(())
 }
 
-// A series of calls on a shelf, and the base image that comes back.
+// Prints a series of calls on a shelf, and the base image that comes back.
 fn show_chain(rt: &HostRuntime, chain: [&[u8]; 4]) -> anyhow::Result<()> {
     let mut map = [0u32; 3];
     let mut pool = [0u8; 512];
@@ -179,7 +179,7 @@ fn show_chain(rt: &HostRuntime, chain: [&[u8]; 4]) -> anyhow::Result<()> {
     show_pages(rt, "the four streams applied in order", &copy)
 }
 
-// Writes the chain and plays the series.
+/// Writes the chain and plays the series.
 pub fn show_series(rt: &HostRuntime) -> anyhow::Result<()> {
     let [first, second, third, fourth] = &CHAIN;
     let first = first.stream(rt)?;

@@ -1,6 +1,5 @@
 // A tour of the work: it writes a difference stream, checks it, lists it, shows refusals, joins two
-// streams, applies the join, and plays a series of calls on a shelf. (Most refusals here are what the tour
-// shows: each is matched, and said in words of its own.)
+// streams, applies the join, and plays a series of calls on a shelf.
 use crate::samples::{CUT, GROWN, SAMPLE, accepted};
 use crate::series::show_series;
 use anyhow::anyhow;
@@ -12,12 +11,12 @@ use store::{FlatImage, Store};
 use stream::check;
 use writer::Opened;
 
-// The first `n` bytes, or all where there are fewer.
+/// The first `n` bytes, or all where there are fewer.
 pub fn front(bytes: &[u8], n: usize) -> &[u8] {
     bytes.get(..n).unwrap_or(bytes)
 }
 
-// Checks bytes, and says what they are called and what came of it.
+// Checks bytes, and prints what they are and the outcome.
 fn show_check(rt: &HostRuntime, what: &str, stream: &[u8]) -> anyhow::Result<()> {
     let n = stream.len();
     match check(stream) {
@@ -27,7 +26,7 @@ fn show_check(rt: &HostRuntime, what: &str, stream: &[u8]) -> anyhow::Result<()>
     Ok(())
 }
 
-// Lists a stream.
+// Prints the list of a stream.
 fn show_list(rt: &HostRuntime, stream: &[u8]) -> anyhow::Result<()> {
     let mut text = [0u8; 128];
     match list(stream, &mut text) {
@@ -42,7 +41,7 @@ fn show_list(rt: &HostRuntime, stream: &[u8]) -> anyhow::Result<()> {
     Ok(())
 }
 
-// A writer refuses a range that passes the size, and gives the writer back.
+// Shows that a writer refuses a range that passes the size, and is given back.
 fn show_refused_record(rt: &HostRuntime) -> anyhow::Result<()> {
     let mut out = [0u8; 64];
     let Ok(recording) = Opened::new().names(&mut out, b"", b"a", 10) else {
@@ -64,7 +63,7 @@ fn show_refused_record(rt: &HostRuntime) -> anyhow::Result<()> {
     Ok(())
 }
 
-// A stream that was written, checked and listed, and refusals.
+// Shows a stream that is written, checked and listed, and refusals.
 fn show_one_stream(rt: &HostRuntime) -> anyhow::Result<()> {
     let stream = SAMPLE.stream(rt)?;
     println!(rt;
@@ -79,7 +78,7 @@ fn show_one_stream(rt: &HostRuntime) -> anyhow::Result<()> {
     show_refused_record(rt)
 }
 
-// Prints `n` bytes of an image from an offset on, a zero as a dot.
+/// Prints `n` bytes of an image from an offset on, a zero as a dot.
 pub fn show_bytes<S: Store>(
     rt: &HostRuntime,
     image: &S,
@@ -125,7 +124,7 @@ fn show_apply(rt: &HostRuntime, stream: &[u8]) -> anyhow::Result<()> {
     }
 }
 
-// Two streams that follow each other, as one.
+// Shows the join of two streams that follow each other.
 fn show_join(rt: &HostRuntime) -> anyhow::Result<()> {
     let earlier = CUT.stream(rt)?;
     let later = GROWN.stream(rt)?;
@@ -149,7 +148,7 @@ fn show_join(rt: &HostRuntime) -> anyhow::Result<()> {
     Ok(())
 }
 
-// Prints the tour: streams, and a series of calls on a shelf.
+/// Prints the tour: streams, and a series of calls on a shelf.
 pub fn show_tour(rt: &HostRuntime) -> anyhow::Result<()> {
     println!(rt;
         "Lovgwarzh: differences between snapshots of an image, checked, listed, joined, applied, and kept on a shelf."

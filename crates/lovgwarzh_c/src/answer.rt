@@ -3,41 +3,31 @@ ghost use Rattle.lovgwarzh_c.specs.Answers.{answer_of};
 
 use fault::Fault;
 
-// What each call answers: the bytes written and no cause, or the five numbers of a fault and nothing
-// written. `struct lovgwarzh_answer` in the header, so its fields are the numbers that C sees.
+/// What each call returns, `struct lovgwarzh_answer` in the header: written, cause, layer, place,
+/// record and entry, in this order. They stand by position, since C reads the fields of its struct
+/// by position. A call that was not refused has 0 for its cause; a call that was refused has
+/// written 0 bytes.
 #[repr(C)]
 #[derive(Clone, Copy)]
 pub struct Answer {
-    pub written: u64,
-    pub cause: u64,
-    pub layer: u64,
-    pub place: u64,
-    pub record: u64,
-    pub entry: u64,
+    pub numbers: [u64; 6],
 }
 
-// The answer to a call that wrote so many bytes, or was refused. (A match: C has one struct for both.)
 impl From<Result<usize, Fault>> for Answer {
     ghost from_gives = { λ r answer. answer ≡ answer_of r };
 
     fn from(r: Result<usize, Fault>) -> Answer {
-        match r {
-            Ok(written) => Answer {
-                written: written as u64,
-                cause: 0,
-                layer: 0,
-                place: 0,
-                record: 0,
-                entry: 0,
-            },
-            Err(f) => Answer {
-                written: 0,
-                cause: f.cause.number(),
-                layer: f.layer.number(),
-                place: f.place,
-                record: f.record,
-                entry: f.entry,
-            },
-        }
+        let numbers = match r {
+            Ok(written) => [written as u64, 0, 0, 0, 0, 0],
+            Err(f) => [
+                0,
+                f.cause.number(),
+                f.layer.number(),
+                f.place,
+                f.record,
+                f.entry,
+            ],
+        };
+        Answer { numbers }
     }
 }

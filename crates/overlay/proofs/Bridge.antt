@@ -1,12 +1,13 @@
--- From positions to lists: what runs mean as the list of states, and the join rule in both forms. Assumes nothing.
+-- From positions to lists: what runs mean as the list of states, and the join rule in both forms.
+-- Assumes nothing.
 use Rattle.std.proofs.Common.{◌≡◌, ℕ, ◌<◌, List, [], map, length, get_or, replicate, None, Option, sym, ap, ◌∙◌, subst, ⊎_elim, arith}
 use Rattle.std.specs.List.{range_with_len}
 use Rattle.std.proofs.lemmas.List.{same_lists, ext_get_or, length-replicate, get_or-replicate}
 use Rattle.std.proofs.lemmas.List.FromFn.{length-map-range_with_len, get_or-map-range_with_len}
 use Rattle.std.proofs.lemmas.Bool.{cases_lt, lt-ltb, le-ltb}
 use Rattle.overlay.specs.declared.runs.Run.{Run}
-use Rattle.overlay.specs.States.{over, overlaid}
-use Rattle.overlay.specs.Runs.{at, painted, overlaid_at, Canonical, RunsOf, Runs}
+use Rattle.overlay.specs.States.{over, overlay_states}
+use Rattle.overlay.specs.Runs.{at, run_states, overlay_state_at, Canonical, RunsOf, Runs}
 use Rattle.overlay.specs.Laws.{OneRuns}
 use Rattle.overlay.proofs.Overlaid.{overlaid_length, overlaid_getD, under_cond}
 use Rattle.overlay.proofs.Unique.{unique}
@@ -20,16 +21,16 @@ counted_same f h n e =
     get_or-map-range_with_len f 0 n k k d m (omega arith) ∙ e k m ∙ sym (get_or-map-range_with_len h 0 n k k d m (omega arith)))
 
 module _ {M : Type 0} (moves : M → ℕ → M) where
-  pub painted_length : (rs : List (Run M)) (n : ℕ) → length (painted moves rs n) ≡ n
+  pub painted_length : (rs : List (Run M)) (n : ℕ) → length (run_states moves rs n) ≡ n
   painted_length rs n = length-map-range_with_len (at moves rs) 0 n
 
-  pub painted_getD : (rs : List (Run M)) (n p : ℕ) → p < n → get_or (painted moves rs n) p None ≡ at moves rs p
+  pub painted_getD : (rs : List (Run M)) (n p : ℕ) → p < n → get_or (run_states moves rs n) p None ≡ at moves rs p
   painted_getD rs n p l = get_or-map-range_with_len (at moves rs) 0 n p p None l (omega arith)
 
   -- no runs keep every position
-  pub painted_nothing : (n : ℕ) → painted moves [] n ≡ replicate n None
+  pub painted_nothing : (n : ℕ) → run_states moves [] n ≡ replicate n None
   painted_nothing n =
-      ext_get_or None (painted moves [] n) (replicate n None) (painted_length [] n ∙ sym (length-replicate n None))
+      ext_get_or None (run_states moves [] n) (replicate n None) (painted_length [] n ∙ sym (length-replicate n None))
       (λ p h.
       let l : p < n = omega (arith, painted_length [] n) in
       painted_getD [] n p l ∙ sym (get_or-replicate n p None None l))
@@ -46,15 +47,15 @@ module _ {M : Type 0} (moves : M → ℕ → M) where
 
   -- the overlay of what earlier runs mean by what later ones mean
   module _ (filler : M) (ds : List (Run M)) (m : ℕ) (es : List (Run M)) (n : ℕ) where
-    pub overlay_length : length (overlaid filler (painted moves ds m) (painted moves es n)) ≡ n
-    overlay_length = overlaid_length filler (painted moves ds m) (painted moves es n) ∙ painted_length es n
+    pub overlay_length : length (overlay_states filler (run_states moves ds m) (run_states moves es n)) ≡ n
+    overlay_length = overlaid_length filler (run_states moves ds m) (run_states moves es n) ∙ painted_length es n
 
-    pub overlay_getD : (p : ℕ) → p < n → get_or (overlaid filler (painted moves ds m) (painted moves es n)) p None ≡ overlaid_at moves filler ds m es p
+    pub overlay_getD : (p : ℕ) → p < n → get_or (overlay_states filler (run_states moves ds m) (run_states moves es n)) p None ≡ overlay_state_at moves filler ds m es p
     overlay_getD p l =
-        let long : p < length (painted moves es n) = omega (arith, painted_length es n) in
+        let long : p < length (run_states moves es n) = omega (arith, painted_length es n) in
         let low = painted_length ds m in
-        overlaid_getD filler (painted moves ds m) (painted moves es n) p long
-        ∙ rw (painted_getD es n p l, under_cond filler (painted moves ds m) p, low)
+        overlaid_getD filler (run_states moves ds m) (run_states moves es n) p long
+        ∙ rw (painted_getD es n p l, under_cond filler (run_states moves ds m) p, low)
         (ap (over (at moves es p))
         (⊎_elim
         (λ b. rw (lt-ltb p m b, painted_getD ds m p b))
@@ -62,23 +63,23 @@ module _ {M : Type 0} (moves : M → ℕ → M) where
         (cases_lt p m)))
 
     -- runs that give each position what the overlay gives it mean the overlay
-    pub overlay_painted : (rs : List (Run M)) → ((p : ℕ) → p < n → at moves rs p ≡ overlaid_at moves filler ds m es p) → painted moves rs n ≡ overlaid filler (painted moves ds m) (painted moves es n)
+    pub overlay_painted : (rs : List (Run M)) → ((p : ℕ) → p < n → at moves rs p ≡ overlay_state_at moves filler ds m es p) → run_states moves rs n ≡ overlay_states filler (run_states moves ds m) (run_states moves es n)
     overlay_painted rs h =
-        ext_get_or None (painted moves rs n) (overlaid filler (painted moves ds m) (painted moves es n)) (painted_length rs n ∙ sym overlay_length)
+        ext_get_or None (run_states moves rs n) (overlay_states filler (run_states moves ds m) (run_states moves es n)) (painted_length rs n ∙ sym overlay_length)
         (λ p a.
         let l : p < n = omega (arith, painted_length rs n) in
         painted_getD rs n p l ∙ h p l ∙ sym (overlay_getD p l))
 
     -- the runs of the overlay, as a list and by positions
-    pub to_lists : (rs : List (Run M)) → RunsOf moves (overlaid_at moves filler ds m es) n rs → Runs moves (overlaid filler (painted moves ds m) (painted moves es n)) rs
+    pub to_lists : (rs : List (Run M)) → RunsOf moves (overlay_state_at moves filler ds m es) n rs → Runs moves (overlay_states filler (run_states moves ds m) (run_states moves es n)) rs
     to_lists rs h = record {
       canonical = subst (λ z. Canonical moves rs z) (sym overlay_length) h.canonical;
-      paints = ap (painted moves rs) overlay_length ∙ overlay_painted rs h.paints;
+      paints = ap (run_states moves rs) overlay_length ∙ overlay_painted rs h.paints;
     }
 
-    pub from_lists : (rs : List (Run M)) → Runs moves (overlaid filler (painted moves ds m) (painted moves es n)) rs → RunsOf moves (overlaid_at moves filler ds m es) n rs
+    pub from_lists : (rs : List (Run M)) → Runs moves (overlay_states filler (run_states moves ds m) (run_states moves es n)) rs → RunsOf moves (overlay_state_at moves filler ds m es) n rs
     from_lists rs h =
-        let g = runs_states (overlaid filler (painted moves ds m) (painted moves es n)) rs h in
+        let g = runs_states (overlay_states filler (run_states moves ds m) (run_states moves es n)) rs h in
         record {
           canonical = subst (λ z. Canonical moves rs z) overlay_length h.canonical;
           paints = λ p l. g.paints p (omega (arith, overlay_length)) ∙ overlay_getD p l;

@@ -1,16 +1,16 @@
 -- Each list of states has canonical runs. Assumes nothing.
-use Rattle.std.proofs.Common.{◌≡◌, ℕ, suc, ◌+◌, ◌-◌, ◌%◌, ◌^◌, ◌<◌, ◌≤◌, Bool, ◌&&◌, eqb, List, [], ◌∷◌, length, get_or, take, Some, None, Decides, Option, sym, refl, ap, ◌∙◌, subst, ⊎_elim, arith}
+use Rattle.std.proofs.Common.{◌≡◌, ℕ, suc, ◌+◌, ◌-◌, ◌%◌, ◌^◌, ◌<◌, ◌≤◌, Bool, ◌&&◌, eqb, List, [], ◌∷◌, length, get_or, Some, None, Decides, Option, sym, refl, ap, ◌∙◌, subst, ⊎_elim, arith}
 use Rattle.std.proofs.lemmas.List.{ext_get_or}
 use Rattle.std.proofs.lemmas.Bool.{cases_lt, cases_Bool, and_parts, and_from, eqb-true, eq-eqb, cond-true, cond-false, both_ways}
 use Rattle.overlay.specs.declared.runs.Run.{Run}
-use Rattle.overlay.specs.States.{over, overlaid}
-use Rattle.overlay.specs.Runs.{ends, run_at, at, painted, overlaid_at, Rising, Parted, Apart, glue, runs_from, Answers, AnswersOf}
+use Rattle.overlay.specs.States.{over, overlay_states}
+use Rattle.overlay.specs.Runs.{run_end, run_at, at, run_states, overlay_state_at, overlay_runs, RunsOf, Rising, Parted, Apart, glue, runs_from}
 use Rattle.overlay.specs.Laws.{RunsExist}
 use Rattle.overlay.proofs.Painted.{over_assoc, run_inside, run_after, merged_at, moves_on, rising_lower, rising_le, at_before}
-use Rattle.overlay.proofs.Bridge.{painted_length, painted_getD, overlay_length, to_lists, from_lists, one_runs}
+use Rattle.overlay.proofs.Bridge.{painted_length, painted_getD, overlay_length, from_lists}
 
 module _ {M : Type 0} (moves : M → ℕ → M) (alike : M → M → Bool)
-    (tells : (m n : M) → Decides (alike m n) (m ≡ n)) (still : (m : M) → moves m 0 ≡ m)
+    (decides : (m n : M) → Decides (alike m n) (m ≡ n)) (still : (m : M) → moves m 0 ≡ m)
     (further : (m : M) (a b : ℕ) → moves (moves m a) b ≡ moves m ((a + b) % 2 ^ 64)) where
   abbrev single : ℕ → M → Run M
   single p m = record { offset = p; length = 1; mark = m }
@@ -20,19 +20,19 @@ module _ {M : Type 0} (moves : M → ℕ → M) (alike : M → M → Bool)
     apart : Apart moves xs
     paints : (q : ℕ) → at moves xs q ≡ over (run_at moves (single p m) q) (at moves rs q)
 
-  parted_like : (a b : Run M) (rs : List (Run M)) → ends a ≡ ends b → moves a.mark a.length ≡ moves b.mark b.length → Parted moves b rs → Parted moves a rs
+  parted_like : (a b : Run M) (rs : List (Run M)) → run_end a ≡ run_end b → moves a.mark a.length ≡ moves b.mark b.length → Parted moves b rs → Parted moves a rs
   parted_like a b [] e f h = tt
   parted_like a b (s ∷ rs) e f h = λ x y. h (sym e ∙ x) (sym f ∙ y)
 
-  glued_apart : (p b : ℕ) (m : M) (r : Run M) (rs : List (Run M)) → Rising (p + 1) (r ∷ rs) b → Apart moves (r ∷ rs) → (ends (single p m) ≡ r.offset → moves m 1 ≡ r.mark → ⊥) → Glued p b m (r ∷ rs) (single p m ∷ (r ∷ rs))
+  glued_apart : (p b : ℕ) (m : M) (r : Run M) (rs : List (Run M)) → Rising (p + 1) (r ∷ rs) b → Apart moves (r ∷ rs) → (run_end (single p m) ≡ r.offset → moves m 1 ≡ r.mark → ⊥) → Glued p b m (r ∷ rs) (single p m ∷ (r ∷ rs))
   glued_apart p b m r rs h a n = record { rising = (omega arith, omega arith, h); apart = (n, a); paints = λ q. refl }
 
   glued_joined : (p b : ℕ) (m : M) (r : Run M) (rs : List (Run M)) → Rising (p + 1) (r ∷ rs) b → Apart moves (r ∷ rs) → b < 2 ^ 64 → p + 1 ≡ r.offset → moves m 1 ≡ r.mark
       → Glued p b m (r ∷ rs) (record { offset = p; length = 1 + r.length; mark = m } ∷ rs)
   glued_joined p b m r rs h a l e f =
       let w : Run M = record { offset = p; length = 1 + r.length; mark = m } in
-      let u = rising_le (ends r) b rs h.2 in
-      let t : ends w ≡ ends r = omega arith in
+      let u = rising_le (run_end r) b rs h.2 in
+      let t : run_end w ≡ run_end r = omega arith in
       let on : moves m (1 + r.length) ≡ moves r.mark r.length = sym (moves_on moves further m 1 r.length (1 + r.length) refl (omega arith)) ∙ ap (λ x. moves x r.length) f in
       record {
         rising = (omega arith, omega arith, subst (λ z. Rising z rs b) (sym t) h.2);
@@ -50,10 +50,10 @@ module _ {M : Type 0} (moves : M → ℕ → M) (alike : M → M → Bool)
       ⊎_elim
       (λ y.
       let parts = and_parts (eqb (p + 1) r.offset) (alike (moves m 1) r.mark) y in
-      rw (cond-true test _ _ y) (glued_joined p b m r rs h a l (eqb-true _ _ parts.0) ((tells (moves m 1) r.mark).0 parts.1)))
+      rw (cond-true test _ _ y) (glued_joined p b m r rs h a l (eqb-true _ _ parts.0) ((decides (moves m 1) r.mark).0 parts.1)))
       (λ n.
       rw (cond-false test _ _ n)
-      (glued_apart p b m r rs h a (λ x y. both_ways test n (and_from (eqb (p + 1) r.offset) (alike (moves m 1) r.mark) (eq-eqb _ _ x) ((tells (moves m 1) r.mark).1 y)))))
+      (glued_apart p b m r rs h a (λ x y. both_ways test n (and_from (eqb (p + 1) r.offset) (alike (moves m 1) r.mark) (eq-eqb _ _ x) ((decides (moves m 1) r.mark).1 y)))))
       (cases_Bool test)
 
   record From (p : ℕ) (ds : List (Option M)) (rs : List (Run M)) : Type 0 where
@@ -110,20 +110,15 @@ module _ {M : Type 0} (moves : M → ℕ → M) (alike : M → M → Bool)
       let rs = runs_from moves alike 0 ds in
       record {
         canonical = record { rising = subst (λ n. Rising 0 rs n) z t.rising; apart = t.apart };
-        paints = ext_get_or None (painted moves rs (length ds)) ds (painted_length moves rs (length ds))
+        paints = ext_get_or None (run_states moves rs (length ds)) ds (painted_length moves rs (length ds))
             (λ i h.
             let s : i - 0 ≡ i = omega arith in
             let k : i < length ds = omega (arith, painted_length moves rs (length ds)) in
             painted_getD moves rs (length ds) i k ∙ t.paints i (omega arith) (omega arith) ∙ ap (λ j. get_or ds j None) s);
       }
 
-  -- an answer by positions is one by the list of canonical runs
-  pub answered : (filler : M) (ds : List (Run M)) (m : ℕ) (es : List (Run M)) (n : ℕ) → n < 2 ^ 64 → (r : Option ℕ) (out : List (Run M))
-      → AnswersOf moves (overlaid_at moves filler ds m es) n r out → Answers (runs_from moves alike 0 (overlaid filler (painted moves ds m) (painted moves es n))) r out
-  answered filler ds m es n l r out =
-      let whole = overlaid filler (painted moves ds m) (painted moves es n) in
-      let there = exists whole (omega (arith, overlay_length moves filler ds m es n)) in
-      elim r as (λ r. AnswersOf moves (overlaid_at moves filler ds m es) n r out → Answers (runs_from moves alike 0 whole) r out) [
-        | None ↦ λ h. h (runs_from moves alike 0 whole) (from_lists moves filler ds m es n (runs_from moves alike 0 whole) there)
-        | Some k ↦ λ h. (h.0, one_runs moves still whole (take k out) (runs_from moves alike 0 whole) (to_lists moves filler ds m es n (take k out) h.1) there)
-      ]
+  -- the canonical runs of an overlay, by positions
+  pub overlay_exists : (filler : M) (ds : List (Run M)) (m : ℕ) (es : List (Run M)) (n : ℕ) → n < 2 ^ 64 → RunsOf moves (overlay_state_at moves filler ds m es) n (overlay_runs moves alike filler ds m es n)
+  overlay_exists filler ds m es n l =
+      let whole = overlay_states filler (run_states moves ds m) (run_states moves es n) in
+      from_lists moves filler ds m es n (runs_from moves alike 0 whole) (exists whole (omega (arith, overlay_length moves filler ds m es n)))

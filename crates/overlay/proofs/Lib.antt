@@ -1,4 +1,5 @@
 pub mod Painted
+pub mod Filling
 pub mod Pushing
 pub mod Walking
 pub mod Overlaid

@@ -3,7 +3,7 @@ use Rattle.std.proofs.Common.{◌≡◌, ℕ, zero, suc, ◌+◌, ◌-◌, ◌%�
 use Rattle.std.proofs.lemmas.Bool.{cases_lt}
 use Rattle.overlay.specs.declared.runs.Run.{Run}
 use Rattle.overlay.specs.States.{over}
-use Rattle.overlay.specs.Runs.{ends, run_at, at, Rising}
+use Rattle.overlay.specs.Runs.{run_end, run_at, at, Rising}
 
 pub over_assoc : {M : Type 0} (a b c : Option M) → over (over a b) c ≡ over a (over b c)
 over_assoc None b c = refl
@@ -25,7 +25,7 @@ module _ {M : Type 0} (moves : M → ℕ → M) where
   at_append [] ys p = refl
   at_append (x ∷ xs) ys p = ap (over (run_at moves x p)) (at_append xs ys p) ∙ sym (over_assoc (run_at moves x p) (at moves xs p) (at moves ys p))
 
-  pub run_inside : (r : Run M) (p : ℕ) → r.offset ≤ p → p < ends r → run_at moves r p ≡ Some (moves r.mark (p - r.offset))
+  pub run_inside : (r : Run M) (p : ℕ) → r.offset ≤ p → p < run_end r → run_at moves r p ≡ Some (moves r.mark (p - r.offset))
   unfolding run_at
   run_inside r p h l = grind arith
 
@@ -33,27 +33,27 @@ module _ {M : Type 0} (moves : M → ℕ → M) where
   unfolding run_at
   run_before r p h = grind arith
 
-  pub run_after : (r : Run M) (p : ℕ) → ends r ≤ p → run_at moves r p ≡ None
+  pub run_after : (r : Run M) (p : ℕ) → run_end r ≤ p → run_at moves r p ≡ None
   unfolding run_at
   run_after r p h = grind arith
 
 pub rising_wider : {M : Type 0} (a b c : ℕ) (rs : List (Run M)) → Rising a rs b → b ≤ c → Rising a rs c
 rising_wider a b c [] h l = omega arith
-rising_wider a b c (r ∷ rs) h l = (h.0, h.1, rising_wider (ends r) b c rs h.2 l)
+rising_wider a b c (r ∷ rs) h l = (h.0, h.1, rising_wider (run_end r) b c rs h.2 l)
 
-pub rising_push : {M : Type 0} (a b c : ℕ) (rs : List (Run M)) (r : Run M) → Rising a rs b → b ≤ r.offset → 1 ≤ r.length → ends r ≤ c → Rising a (rs ++ r ∷ []) c
+pub rising_push : {M : Type 0} (a b c : ℕ) (rs : List (Run M)) (r : Run M) → Rising a rs b → b ≤ r.offset → 1 ≤ r.length → run_end r ≤ c → Rising a (rs ++ r ∷ []) c
 rising_push a b c [] r h l s e = (omega arith, s, e)
-rising_push a b c (x ∷ rs) r h l s e = (h.0, h.1, rising_push (ends x) b c rs r h.2 l s e)
+rising_push a b c (x ∷ rs) r h l s e = (h.0, h.1, rising_push (run_end x) b c rs r h.2 l s e)
 
 pub record Last {M : Type 0} (a b : ℕ) (rs : List (Run M)) (r : Run M) : Type 0 where
   pub front : Rising a rs r.offset
   pub some : 1 ≤ r.length
-  pub under : ends r ≤ b
+  pub under : run_end r ≤ b
 
 pub rising_last : {M : Type 0} (a b : ℕ) (rs : List (Run M)) (r : Run M) → Rising a (rs ++ r ∷ []) b → Last a b rs r
 rising_last a b [] r h = record { front = h.0; some = h.1; under = h.2 }
 rising_last a b (x ∷ rs) r h =
-    let t = rising_last (ends x) b rs r h.2 in
+    let t = rising_last (run_end x) b rs r h.2 in
     record { front = (h.0, h.1, t.front); some = t.some; under = t.under }
 
 module _ {M : Type 0} (moves : M → ℕ → M) (further : (m : M) (a b : ℕ) → moves (moves m a) b ≡ moves m ((a + b) % 2 ^ 64)) where
@@ -64,7 +64,7 @@ module _ {M : Type 0} (moves : M → ℕ → M) (further : (m : M) (a b : ℕ) �
       further m a b ∙ ap (moves m) f
 
   -- a run that goes on as another is one run with it
-  pub merged_at : (r s m : Run M) → ends r ≡ s.offset → moves r.mark r.length ≡ s.mark → m.offset ≡ r.offset → m.length ≡ r.length + s.length → m.mark ≡ r.mark → m.length < 2 ^ 64
+  pub merged_at : (r s m : Run M) → run_end r ≡ s.offset → moves r.mark r.length ≡ s.mark → m.offset ≡ r.offset → m.length ≡ r.length + s.length → m.mark ≡ r.mark → m.length < 2 ^ 64
       → (p : ℕ) → run_at moves m p ≡ over (run_at moves r p) (run_at moves s p)
   merged_at r s m e f o n k l p =
       ⊎_elim
@@ -79,8 +79,8 @@ module _ {M : Type 0} (moves : M → ℕ → M) (further : (m : M) (a b : ℕ) �
       ap (λ x. moves x (p - s.offset)) (sym f) ∙ moves_on r.mark r.length (p - s.offset) (p - m.offset) (omega arith) (omega arith) ∙ ap (λ x. moves x (p - m.offset)) (sym k) in
       rw (run_inside moves m p (omega arith) (omega arith), run_after moves r p i, run_inside moves s p (omega arith) (omega arith), q))
       (λ j. rw (run_after moves m p (omega arith), run_after moves r p i, run_after moves s p (omega arith)))
-      (cases_lt p (ends s)))
-      (cases_lt p (ends r)))
+      (cases_lt p (run_end s)))
+      (cases_lt p (run_end r)))
       (cases_lt p r.offset)
 
 pub rising_lower : {M : Type 0} (a c b : ℕ) (rs : List (Run M)) → Rising a rs b → c ≤ a → Rising c rs b
@@ -89,18 +89,18 @@ rising_lower a c b (r ∷ rs) h l = (omega arith, h.1, h.2)
 
 pub rising_le : {M : Type 0} (a b : ℕ) (rs : List (Run M)) → Rising a rs b → a ≤ b
 rising_le a b [] h = h
-rising_le a b (r ∷ rs) h = omega (arith, rising_le (ends r) b rs h.2)
+rising_le a b (r ∷ rs) h = omega (arith, rising_le (run_end r) b rs h.2)
 
 pub rising_drop : {M : Type 0} (b i : ℕ) (rs : List (Run M)) → Rising 0 rs b → Rising 0 (drop i rs) b
 rising_drop b zero rs h = h
 rising_drop b (suc i) [] h = h
-rising_drop b (suc i) (r ∷ rs) h = rising_drop b i rs (rising_lower (ends r) 0 b rs h.2 (omega arith))
+rising_drop b (suc i) (r ∷ rs) h = rising_drop b i rs (rising_lower (run_end r) 0 b rs h.2 (omega arith))
 
 module _ {M : Type 0} (moves : M → ℕ → M) where
   pub at_before : (a b : ℕ) (rs : List (Run M)) (p : ℕ) → Rising a rs b → p < a → at moves rs p ≡ None
   at_before a b [] p h l = refl
-  at_before a b (r ∷ rs) p h l = rw (run_before moves r p (omega arith)) (at_before (ends r) b rs p h.2 (omega arith))
+  at_before a b (r ∷ rs) p h l = rw (run_before moves r p (omega arith)) (at_before (run_end r) b rs p h.2 (omega arith))
 
   pub at_after : (a b : ℕ) (rs : List (Run M)) (p : ℕ) → Rising a rs b → b ≤ p → at moves rs p ≡ None
   at_after a b [] p h l = refl
-  at_after a b (r ∷ rs) p h l = rw (run_after moves r p (omega (arith, rising_le (ends r) b rs h.2))) (at_after (ends r) b rs p h.2 l)
+  at_after a b (r ∷ rs) p h l = rw (run_after moves r p (omega (arith, rising_le (run_end r) b rs h.2))) (at_after (run_end r) b rs p h.2 l)

@@ -1,4 +1,5 @@
--- Range marks: their comparison tells, so that every list of kinds has canonical runs. Assumes nothing.
+-- Range marks: their comparison decides, so that every list of kinds has canonical runs. Assumes
+-- nothing.
 use Rattle.std.proofs.Common.{◌≡◌, Decides, refl}
 use Rattle.overlay.specs.declared.ranges.RangeMark.{RangeMark}
 use Rattle.overlay.specs.declared.ranges.RangeMark.TheVariants.{Zeroed, Written}

@@ -4,7 +4,7 @@ use Rattle.std.proofs.lemmas.Bool.{cases_Bool, cases_lt, leb-true, leb-false, co
 use Rattle.overlay.specs.declared.runs.Run.{Run}
 use Rattle.overlay.specs.declared.runs.Piece.{Piece}
 use Rattle.overlay.specs.States.{over}
-use Rattle.overlay.specs.Runs.{ends, at, overlaid_at, Rising, RunsOf}
+use Rattle.overlay.specs.Runs.{run_end, at, overlay_state_at, Rising, RunsOf}
 use Rattle.overlay.specs.Walks.{runs_left, Left, Ahead, Even, Grown, tick, edges_after, edges}
 use Rattle.overlay.proofs.Painted.{run_inside, run_before, run_after, moves_on, rising_lower, rising_le, at_before}
 
@@ -14,11 +14,11 @@ first_of [] x l e = absurd (omega arith)
 first_of (y ∷ ys) x l e = ap (λ z. z ∷ ys) (sym e)
 
 -- of runs that rise, the first ends by the size, and the others rise
-pub first_ends : {M : Type 0} (x : Run M) (runs rest : List (Run M)) (b : ℕ) → runs ≡ x ∷ rest → Rising 0 runs b → ends x ≤ b
-first_ends x runs rest b e h = rising_le (ends x) b rest (rw e at h).2
+pub first_ends : {M : Type 0} (x : Run M) (runs rest : List (Run M)) (b : ℕ) → runs ≡ x ∷ rest → Rising 0 runs b → run_end x ≤ b
+first_ends x runs rest b e h = rising_le (run_end x) b rest (rw e at h).2
 
 pub rising_rest : {M : Type 0} (rest : List (Run M)) (b : ℕ) (x : Run M) (runs : List (Run M)) → runs ≡ x ∷ rest → Rising 0 runs b → Rising 0 rest b
-rising_rest rest b x runs e h = rising_lower (ends x) 0 b rest (rw e at h).2 (omega arith)
+rising_rest rest b x runs e h = rising_lower (run_end x) 0 b rest (rw e at h).2 (omega arith)
 
 -- a position past q has no edge there
 tick_past : (p q : ℕ) → q ≤ p → tick p q ≡ 0
@@ -35,42 +35,42 @@ module _ {M : Type 0} (moves : M → ℕ → M) where
   pub left_further : (runs left more : List (Run M)) (pos : ℕ) → Left moves runs pos left → Left moves left pos more → Left moves runs pos more
   left_further runs left more pos h k = record { same = λ p l. k.same p l ∙ h.same p l; edges = λ p l. k.edges p l ∙ h.edges p l }
 
-  left_passed : (r : Run M) (rs : List (Run M)) (pos : ℕ) → ends r ≤ pos → Left moves (r ∷ rs) pos rs
+  left_passed : (r : Run M) (rs : List (Run M)) (pos : ℕ) → run_end r ≤ pos → Left moves (r ∷ rs) pos rs
   left_passed r rs pos e = record {
     same = λ p l. rw (run_after moves r p (omega arith));
-    edges = λ p l. omega (arith, tick_past p r.offset (omega arith), tick_past p (ends r) (omega arith));
+    edges = λ p l. omega (arith, tick_past p r.offset (omega arith), tick_past p (run_end r) (omega arith));
   }
 
   pub left_runs : (pos : ℕ) (runs : List (Run M)) → Left moves runs pos (runs_left pos runs)
   left_runs pos [] = left_all [] pos
   left_runs pos (r ∷ rs) =
       ⊎_elim
-      (λ y. rw (cond-true (leb (ends r) pos) _ _ y) (left_further (r ∷ rs) rs (runs_left pos rs) pos (left_passed r rs pos (leb-true (ends r) pos y)) (left_runs pos rs)))
-      (λ n. rw (cond-false (leb (ends r) pos) _ _ n) (left_all (r ∷ rs) pos))
-      (cases_Bool (leb (ends r) pos))
+      (λ y. rw (cond-true (leb (run_end r) pos) _ _ y) (left_further (r ∷ rs) rs (runs_left pos rs) pos (left_passed r rs pos (leb-true (run_end r) pos y)) (left_runs pos rs)))
+      (λ n. rw (cond-false (leb (run_end r) pos) _ _ n) (left_all (r ∷ rs) pos))
+      (cases_Bool (leb (run_end r) pos))
 
 module _ {M : Type 0} (pos : ℕ) where
   pub ahead_left : (runs : List (Run M)) → Ahead pos (runs_left pos runs)
   ahead_left [] = tt
   ahead_left (r ∷ rs) =
       ⊎_elim
-      (λ y. rw (cond-true (leb (ends r) pos) _ _ y) (ahead_left rs))
-      (λ n. rw (cond-false (leb (ends r) pos) _ _ n) (leb-false (ends r) pos n))
-      (cases_Bool (leb (ends r) pos))
+      (λ y. rw (cond-true (leb (run_end r) pos) _ _ y) (ahead_left rs))
+      (λ n. rw (cond-false (leb (run_end r) pos) _ _ n) (leb-false (run_end r) pos n))
+      (cases_Bool (leb (run_end r) pos))
 
 -- the piece of runs that are left
 module _ {M : Type 0} (moves : M → ℕ → M) (pos size : ℕ) (x : Run M) (rs : List (Run M)) (rising : Rising 0 (x ∷ rs) size) where
   pub even_gap : pos < x.offset → Even moves (at moves (x ∷ rs)) pos size (record { state = None; stop = x.offset })
   even_gap l = record {
     more = l;
-    under = omega (arith, rising_le (ends x) size rs rising.2);
-    same = λ p a b. rw (run_before moves x p b) (at_before moves (ends x) size rs p rising.2 (omega arith));
+    under = omega (arith, rising_le (run_end x) size rs rising.2);
+    same = λ p a b. rw (run_before moves x p b) (at_before moves (run_end x) size rs p rising.2 (omega arith));
   }
 
-  pub even_run : ((m : M) (a b : ℕ) → moves (moves m a) b ≡ moves m ((a + b) % 2 ^ 64)) → size < 2 ^ 64 → x.offset ≤ pos → pos < ends x → (m : M) → m ≡ moves x.mark (pos - x.offset)
-      → Even moves (at moves (x ∷ rs)) pos size (record { state = Some m; stop = ends x })
+  pub even_run : ((m : M) (a b : ℕ) → moves (moves m a) b ≡ moves m ((a + b) % 2 ^ 64)) → size < 2 ^ 64 → x.offset ≤ pos → pos < run_end x → (m : M) → m ≡ moves x.mark (pos - x.offset)
+      → Even moves (at moves (x ∷ rs)) pos size (record { state = Some m; stop = run_end x })
   even_run further fits l ahead m e =
-      let under : ends x ≤ size = rising_le (ends x) size rs rising.2 in
+      let under : run_end x ≤ size = rising_le (run_end x) size rs rising.2 in
       record {
         more = ahead;
         under = under;
@@ -87,7 +87,7 @@ even_as moves states others pos size piece e even = record { more = even.more; u
 
 -- the overlay of what is left is the overlay of all
 pub overlaid_left : {M : Type 0} (moves : M → ℕ → M) (filler : M) (earlier under later over : List (Run M)) (size pos : ℕ) → Left moves earlier pos under → Left moves later pos over
-    → (p : ℕ) → pos ≤ p → overlaid_at moves filler under size over p ≡ overlaid_at moves filler earlier size later p
+    → (p : ℕ) → pos ≤ p → overlay_state_at moves filler under size over p ≡ overlay_state_at moves filler earlier size later p
 overlaid_left moves filler earlier under later over size pos h k p l = rw (h.same p l, k.same p l)
 
 pub runs_none : {M : Type 0} (moves : M → ℕ → M) (states : ℕ → Option M) → RunsOf moves states 0 []
@@ -116,11 +116,11 @@ tick_passed a q l = grind arith
 
 edges_le : {M : Type 0} (a b : ℕ) (rs : List (Run M)) → a ≤ b → edges_after b rs ≤ edges_after a rs
 edges_le a b [] l = omega arith
-edges_le a b (r ∷ rs) l = omega (arith, tick_le a b r.offset l, tick_le a b (ends r) l, edges_le a b rs l)
+edges_le a b (r ∷ rs) l = omega (arith, tick_le a b r.offset l, tick_le a b (run_end r) l, edges_le a b rs l)
 
 edges_most : {M : Type 0} (a : ℕ) (rs : List (Run M)) → edges_after a rs ≤ 2 * length rs
 edges_most a [] = omega arith
-edges_most a (r ∷ rs) = omega (arith, tick_one a r.offset, tick_one a (ends r), edges_most a rs)
+edges_most a (r ∷ rs) = omega (arith, tick_one a r.offset, tick_one a (run_end r), edges_most a rs)
 
 module _ {M : Type 0} (runs : List (Run M)) (pos size : ℕ) where
   pub edges_all : edges pos runs size ≤ 2 * length runs + 1
@@ -141,12 +141,12 @@ module _ {M : Type 0} (pos size : ℕ) (x : Run M) (rs : List (Run M)) where
   unfolding edges
   edges_offset l =
       let o = x.offset in
-      omega (arith, edges_le pos o rs (omega arith), tick_passed pos o l, tick_le pos o (ends x) (omega arith), tick_le pos o size (omega arith))
+      omega (arith, edges_le pos o rs (omega arith), tick_passed pos o l, tick_le pos o (run_end x) (omega arith), tick_le pos o size (omega arith))
 
-  pub edges_ends : pos < ends x → edges (ends x) (x ∷ rs) size < edges pos (x ∷ rs) size
+  pub edges_ends : pos < run_end x → edges (run_end x) (x ∷ rs) size < edges pos (x ∷ rs) size
   unfolding edges
   edges_ends l =
-      let o = ends x in
+      let o = run_end x in
       omega (arith, edges_le pos o rs (omega arith), tick_passed pos o l, tick_le pos o x.offset (omega arith), tick_le pos o size (omega arith))
 
 -- from the position on, what is left has the same edges

@@ -1,6 +1,8 @@
 pub mod States
+pub mod MarkLaws
 pub mod Marks
 pub mod Payloads
 pub mod Runs
+pub mod Buffers
 pub mod Walks
 pub mod Laws

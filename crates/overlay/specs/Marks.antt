@@ -1,5 +1,6 @@
--- The two kinds of marks: how they move on, which is the filler, when two mean the same, and which range mark a payload mark has. Rests on nothing.
-use Rattle.std.specs.Prelude.{ℕ, ◌+◌, ◌%◌, ◌^◌, Bool, true, false, cond, ◌&&◌, ◌==◌, nat_lt}
+-- The two kinds of marks: how they move on, which is the filler, when two mean the same, and which
+-- range mark a payload mark has. Rests on nothing.
+use Rattle.std.specs.Prelude.{ℕ, ◌+◌, ◌%◌, ◌^◌, Bool, true, false, if◌then◌else◌, ◌&&◌, ◌==◌, nat_lt}
 use Rattle.overlay.specs.declared.ranges.RangeMark.{RangeMark}
 use Rattle.overlay.specs.declared.ranges.RangeMark.TheVariants as range
 use Rattle.overlay.specs.declared.payloads.Side.{Side}
@@ -21,7 +22,7 @@ range_alike range.Written range.Written = true
 
 -- a place below 2^64, as each place of the code is, moves on modulo 2^64
 abbrev pub place_moves : ℕ → ℕ → ℕ
-place_moves p k = cond (nat_lt p (2 ^ 64)) ((p + k) % 2 ^ 64) p
+place_moves p k = if nat_lt p (2 ^ 64) then (p + k) % 2 ^ 64 else p
 
 abbrev pub payload_moves : PayloadMark → ℕ → PayloadMark
 payload_moves Zeroed k = Zeroed

@@ -1,5 +1,6 @@
--- A difference is the list of the states of its positions: None keeps a position, Some m sets it to what the mark m
--- means. Its length is the size. The join of differences is one rule, for every kind of mark. Rests on std's options.
+-- A difference is the list of the states of its positions: None keeps a position, Some m sets it to
+-- what the mark m means. Its length is the size. The join of differences is one rule, for every
+-- kind of mark. Rests on std's options.
 use Rattle.std.specs.Prelude.{List, [], ◌∷◌, Some, None, Option}
 
 -- the later state, unless it keeps the position
@@ -8,22 +9,22 @@ over None earlier = earlier
 over (Some m) earlier = Some m
 
 -- the first of a list, or another where there is none
-abbrev pub first : {X : Type 0} → X → List X → X
-first other [] = other
-first other (x ∷ xs) = x
+abbrev pub first_or : {X : Type 0} → X → List X → X
+first_or other [] = other
+first_or other (x ∷ xs) = x
 
 -- what follows the first
 abbrev pub rest : {X : Type 0} → List X → List X
 rest [] = []
 rest (x ∷ xs) = xs
 
--- the join of an earlier difference and a later one, whose size it has; what the later keeps past the earlier size is
--- the filler, the mark of a byte that only regrowth made
-unfoldable pub overlaid : {M : Type 0} → M → List (Option M) → List (Option M) → List (Option M)
-overlaid filler earlier [] = []
-overlaid filler earlier (later ∷ ls) = over later (first (Some filler) earlier) ∷ overlaid filler (rest earlier) ls
+-- The join of an earlier difference and a later one, whose size it has. What the later keeps past
+-- the earlier size is the filler, the mark of a byte that only regrowth made.
+unfoldable pub overlay_states : {M : Type 0} → M → List (Option M) → List (Option M) → List (Option M)
+overlay_states filler earlier [] = []
+overlay_states filler earlier (later ∷ ls) = over later (first_or (Some filler) earlier) ∷ overlay_states filler (rest earlier) ls
 
 -- the join of one difference and those that follow it, oldest first
-unfoldable pub overlaid_all : {M : Type 0} → M → List (Option M) → List (List (Option M)) → List (Option M)
-overlaid_all filler oldest [] = oldest
-overlaid_all filler oldest (next ∷ ds) = overlaid_all filler (overlaid filler oldest next) ds
+unfoldable pub overlay_states_all : {M : Type 0} → M → List (Option M) → List (List (Option M)) → List (Option M)
+overlay_states_all filler oldest [] = oldest
+overlay_states_all filler oldest (next ∷ ds) = overlay_states_all filler (overlay_states filler oldest next) ds

@@ -14,7 +14,7 @@ mod sheets;
 pub use laws::{laws_of_maps, laws_of_overlays, laws_of_runs};
 pub use marks::Mark;
 pub use overlays::overlay;
-pub use payloads::{PayloadMark, Side, part, payload};
+pub use payloads::{PayloadMark, Side, payload};
 pub use ranges::RangeMark;
 pub use runs::{Piece, Run};
 pub use sheets::Sheet;

@@ -1,7 +1,7 @@
-ghost use Rattle.std.specs.Prelude.{◌≡◌, ◌+◌, ◌*◌, ◌^◌, ◌<◌, ◌≤◌, true, length, take, is_some, Decides};
-ghost use Rattle.overlay.specs.Runs.{ends, painted, overlaid_at, Rising, Apart, Canonical, Answers, AnswersOf, runs_from};
-ghost use Rattle.overlay.specs.States.{overlaid};
-ghost use Rattle.overlay.specs.Walks.{Pushed, Grown, Counted, Behind};
+ghost use Rattle.std.specs.Prelude.{◌≡◌, ◌^◌, ◌<◌, ◌≤◌, length, take, Decides};
+ghost use Rattle.overlay.specs.Runs.{run_end, Rising, Apart, Canonical};
+ghost use Rattle.overlay.specs.Walks.{Pushed, Grown};
+ghost use Rattle.overlay.specs.Buffers.{Fills, OverlayAnswer};
 
 use super::marks::Mark;
 use super::runs::{Piece, Run};
@@ -9,23 +9,22 @@ use super::sheets::{Sheet, covered};
 
 // Whether `next` begins where `last` ends and goes on as it.
 fn continues<M: Mark + Copy>(last: Run<M>, next: Run<M>) -> bool
-    requires { ends last < 2 ^ 64 }
-    ensures { Decides result ((ends last ≡ next.offset) × (M.moves last.mark last.length ≡ next.mark)) }
+    requires { run_end last < 2 ^ 64 }
+    ensures { Decides result
+        ((run_end last ≡ next.offset) × (M.moves last.mark last.length ≡ next.mark)) }
 {
     last.end() == next.offset && last.mark.moved(last.length) == next.mark
 }
 
 // Adds a run after the first k of `out`, or lengthens the last of them by it where it goes on as
-// that one, and returns how many there are then; None where there is no room for one more. (The
-// buffer is the caller's and stays whole, so the count goes beside it, here and in `add`.)
+// that one. Returns how many runs there are then, or None where there is no room for one more.
 fn push<M: Mark + Copy>(out: &mut [Run<M>], k: usize, run: Run<M>) -> Option<usize>
     requires within { k ≤ length out.old }
     requires rising { Rising 0 (take k out.old) run.offset }
     requires apart { Apart M.moves (take k out.old) }
     requires some { 1 ≤ run.length }
-    requires fits { ends run < 2 ^ 64 }
-    ensures counted { Counted result out.new (Pushed M.moves (take k out.old) run) }
-    ensures behind { Behind k result out.old out.new }
+    requires fits { run_end run < 2 ^ 64 }
+    ensures { Fills (Pushed M.moves (take k out.old) run) result out.old out.new }
 {
     if let [.., last] = &mut out[..k] {
         if continues(*last, run) {
@@ -45,8 +44,7 @@ fn add<M: Mark + Copy>(out: &mut [Run<M>], k: usize, pos: u64, piece: Piece<M>) 
     requires within { k ≤ length out.old }
     requires canonical { Canonical M.moves (take k out.old) pos }
     requires more { pos < piece.stop }
-    ensures counted { Counted result out.new (Grown M.moves (take k out.old) pos piece) }
-    ensures behind { Behind k result out.old out.new }
+    ensures { Fills (Grown M.moves (take k out.old) pos piece) result out.old out.new }
 {
     let Some(mark) = piece.state else {
         return Some(k);
@@ -59,18 +57,17 @@ fn add<M: Mark + Copy>(out: &mut [Run<M>], k: usize, pos: u64, piece: Piece<M>) 
     push(out, k, run)
 }
 
-// The loop of `overlay`: piece by piece, from position 0 up to the later size. Each turn passes an edge
-// of a run or a size, and adds at most one run. (It is no `for`: each piece tells where the next begins.)
+// The loop of `overlay`: piece by piece, from position 0 up to the later size. Each turn passes an
+// edge of a run or a size, and adds at most one run.
 #[tactic(auto, using(crate::proofs::Walking::edges_all, crate::proofs::Walking::runs_none, crate::proofs::Walking::left_all))]
 fn overlay_pieces<M: Mark + Copy>(
     earlier: Sheet<M>,
     later: Sheet<M>,
     out: &mut [Run<M>],
 ) -> Option<usize>
-    ensures room { 2 * (length earlier.entry.runs.now + length later.entry.runs.now) + 2 ≤ length out.new → is_some result ≡ true }
-    ensures runs { AnswersOf M.moves (overlaid_at M.moves M.FILLER earlier.entry.runs.now earlier.entry.size later.entry.runs.now) later.entry.size result out.new }
-    ensures equal { Answers (runs_from M.moves M.alike 0 (overlaid M.FILLER (painted M.moves earlier.entry.runs.now earlier.entry.size) (painted M.moves later.entry.runs.now later.entry.size))) result out.new }
-    ensures behind { Behind 0 result out.old out.new }
+    ensures { OverlayAnswer M.moves M.alike M.FILLER
+        earlier.entry.runs.now earlier.entry.size later.entry.runs.now later.entry.size
+        result out.old out.new }
 {
     let mut under = earlier;
     let mut over = later;
@@ -86,18 +83,18 @@ fn overlay_pieces<M: Mark + Copy>(
     Some(k)
 }
 
-// Writes the canonical runs of the overlay of the earlier difference by the later one to the front of
-// `out`, and returns how many they are; what lies behind them stays. None where they are more than `out`
-// holds.
+/// Writes the canonical runs of the overlay of an earlier difference by a later one into the first
+/// places of `out`, and returns how many there are. Returns None where `out` has fewer places: it
+/// then holds as many of the first runs as it has places. Two places for each run given, and two
+/// more, are always enough.
 pub fn overlay<M: Mark + Copy>(
     earlier: Sheet<M>,
     later: Sheet<M>,
     out: &mut [Run<M>],
 ) -> Option<usize>
-    ensures room { 2 * (length earlier.entry.runs.now + length later.entry.runs.now) + 2 ≤ length out.new → is_some result ≡ true }
-    ensures runs { AnswersOf M.moves (overlaid_at M.moves M.FILLER earlier.entry.runs.now earlier.entry.size later.entry.runs.now) later.entry.size result out.new }
-    ensures equal { Answers (runs_from M.moves M.alike 0 (overlaid M.FILLER (painted M.moves earlier.entry.runs.now earlier.entry.size) (painted M.moves later.entry.runs.now later.entry.size))) result out.new }
-    ensures behind { Behind 0 result out.old out.new }
+    ensures { OverlayAnswer M.moves M.alike M.FILLER
+        earlier.entry.runs.now earlier.entry.size later.entry.runs.now later.entry.size
+        result out.old out.new }
 {
     overlay_pieces(earlier, later, out)
 }

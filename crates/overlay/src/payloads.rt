@@ -1,19 +1,21 @@
 ghost use Rattle.overlay.specs.Marks.{payload_moves, payload_filler, payload_alike};
 ghost use Rattle.std.specs.Prelude.{◌≡◌};
-ghost use Rattle.overlay.specs.Payloads.{stream_of, part_of, payload_of, held, held_at};
+ghost use Rattle.std.specs.Option.{option_copied};
+ghost use Rattle.overlay.specs.Payloads.{stream_of, part_of, payload_of, located_bytes};
 ghost use Rattle.std.proofs.Common.{rules};
 
 use super::marks::Mark;
 use super::runs::Run;
 
-// Which of two joined streams holds a byte.
+/// Which of two joined streams holds a byte.
 #[derive(Clone, Copy, Debug, PartialEq, Eq)]
 pub enum Side {
     Earlier,
     Later,
 }
 
-// A payload mark also tells where a written byte stands: in which stream, and at which place of it.
+/// Whether a byte is zeroed or written, and where a written byte stands: in which stream, and at
+/// which place of it.
 #[derive(Clone, Copy, PartialEq, Eq, Debug)]
 pub enum PayloadMark {
     Zeroed,
@@ -29,15 +31,7 @@ impl Mark for PayloadMark {
 
     ghost FILLER = { payload_filler };
 
-    ghost equals = { Prim.search rules };
-
-    ghost tells = { Prim.search rules };
-
-    ghost still = { Prim.search rules };
-
-    ghost further = { Prim.search rules };
-
-    ghost rests = { Prim.search rules };
+    ghost laws = { Prim.search rules };
 
     fn moved(self, k: u64) -> PayloadMark {
         match self {
@@ -47,16 +41,16 @@ impl Mark for PayloadMark {
     }
 }
 
-// The bytes from `place` on, `length` of them, of the stream that `side` names; None where they would
-// pass its end.
-pub fn part<'a>(
+// The bytes from `place` on, `length` of them, of the stream that `side` names; None where they
+// would pass its end.
+fn part<'a>(
     earlier: &'a [u8],
     later: &'a [u8],
     side: Side,
     place: usize,
     length: usize,
 ) -> Option<&'a [u8]>
-    ensures { held result ≡ part_of (stream_of earlier.now later.now side) place «length» }
+    ensures { option_copied result ≡ part_of (stream_of earlier.now later.now side) place «length» }
 {
     let stream = match side {
         Side::Earlier => earlier,
@@ -66,14 +60,14 @@ pub fn part<'a>(
     stream.get(place..end)
 }
 
-// The payload of a run: its place in the stream that the mark names, and its bytes; None where the
-// run is zeroed or passes the stream's end.
+/// The payload of a run: its place in the stream that the mark names, and its bytes. None where the
+/// run is zeroed or passes the stream's end.
 pub fn payload<'a>(
     earlier: &'a [u8],
     later: &'a [u8],
     run: Run<PayloadMark>,
 ) -> Option<(u64, &'a [u8])>
-    ensures { held_at result ≡ payload_of earlier.now later.now run.mark run.length }
+    ensures { located_bytes result ≡ payload_of earlier.now later.now run.mark run.length }
 {
     let PayloadMark::Written(side, place) = run.mark else {
         return None;

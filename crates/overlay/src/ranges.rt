@@ -5,7 +5,8 @@ ghost use Rattle.std.proofs.Common.{rules};
 use super::marks::Mark;
 use super::payloads::PayloadMark;
 
-// A range mark tells only the kind of a byte: the marks of a difference's canonical records.
+/// Whether a byte is zeroed or written. The canonical records of a difference are runs of these
+/// marks.
 #[derive(Clone, Copy, PartialEq, Eq, Debug)]
 pub enum RangeMark {
     Zeroed,
@@ -13,23 +14,15 @@ pub enum RangeMark {
 }
 
 impl Mark for RangeMark {
-    ghost moves = { range_moves };
-
-    ghost alike = { range_alike };
-
     const FILLER: RangeMark = RangeMark::Zeroed;
 
     ghost FILLER = { range_filler };
 
-    ghost equals = { Prim.search rules };
+    ghost alike = { range_alike };
 
-    ghost tells = { Prim.search rules };
+    ghost moves = { range_moves };
 
-    ghost still = { Prim.search rules };
-
-    ghost further = { Prim.search rules };
-
-    ghost rests = { Prim.search rules };
+    ghost laws = { Prim.search rules };
 
     fn moved(self, _k: u64) -> RangeMark {
         self

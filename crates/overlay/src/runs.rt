@@ -1,10 +1,10 @@
 ghost use Rattle.std.specs.Prelude.{◌≡◌, ◌^◌, ◌<◌};
-ghost use Rattle.overlay.specs.Runs.{ends};
+ghost use Rattle.overlay.specs.Runs.{run_end};
 
 use super::marks::Mark;
 
-// A run of at least one byte: its mark speaks for the first, and moved on by k for the byte k further.
-// (That a run is not empty is said of lists of runs, by `Rising`.)
+/// Bytes that follow each other. The mark is that of the first byte; moved on by k, it is the mark
+/// of the byte k further. Lists of runs that are `Rising` have no empty run.
 #[derive(Clone, Copy)]
 pub struct Run<M> {
     pub offset: u64,
@@ -13,23 +13,23 @@ pub struct Run<M> {
 }
 
 impl<M: Mark + Copy> Run<M> {
-    // What a place for a run holds before a run is put there.
+    /// Fills the places of a buffer before there are runs to put there.
     pub const NONE: Run<M> = Run {
         offset: 0,
         length: 0,
         mark: M::FILLER,
     };
 
-    // The position after its last.
+    /// The position after the last.
     pub fn end(self) -> u64
-        requires { ends self < 2 ^ 64 }
-        ensures { result ≡ ends self }
+        requires { run_end self < 2 ^ 64 }
+        ensures { result ≡ run_end self }
     {
         self.offset + self.length
     }
 }
 
-// The state of a position, which moves on up to `stop`; None where the positions are kept.
+/// The state of a position, which moves on up to `stop`; None where these positions are kept.
 #[derive(Clone, Copy)]
 pub struct Piece<M> {
     pub state: Option<M>,

@@ -71,7 +71,8 @@ filled_ready (suc n) a b h =
     let more = filled_ready n (drop 256 a) (drop 256 b) (λ j e. ap blank (page_on a j) ∙ h (suc j) (sym (ap blank (page_on b j)) ∙ e)) in
     omega arith
 
--- where pages from lo up to hi alone may be blank in b and not in a, a has at most hi - lo filled pages more
+-- where pages from lo up to hi alone may be blank in b and not in a, a has at most hi - lo filled
+-- pages more
 pub filled_met : (n lo hi : ℕ) (a b : List ℕ) → ((j : ℕ) → (j < lo) ⊎ (hi ≤ j) → blank (page_of b j) ≡ true → blank (page_of a j) ≡ true) → filled_from n a ≤ filled_from n b + (hi - lo)
 filled_met zero lo hi a b h = omega arith
 filled_met (suc n) lo zero a b h = omega (arith, filled_ready (suc n) a b (λ j e. h j (inr (omega arith)) e))

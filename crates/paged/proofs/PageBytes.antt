@@ -1,4 +1,5 @@
--- Where a byte of the pages lies, and what pages of zeros and a buffer that was filled byte by byte hold.
+-- Where a byte of the pages lies, and what pages of zeros and a buffer that was filled byte by byte
+-- hold.
 use Rattle.std.specs.Prelude.{◌≡◌, ℕ, zero, suc, ◌+◌, ◌-◌, ◌*◌, ◌/◌, ◌%◌, ◌<◌, ◌≤◌, min, ◌&&◌, List, [], ◌∷◌, length, take, drop, nat_le, slice_index, refl}
 use Rattle.std.proofs.Common.{sym, ◌∙◌, ⊎_elim, arith, length-take, length-drop}
 use Rattle.std.specs.List.{flat_map, AllByRecursion}
@@ -6,8 +7,9 @@ use Rattle.std.proofs.lemmas.List.{get_or_append_left, get_or-append_right, get_
 use Rattle.std.proofs.ByRecursion.{All-from_get_or}
 use Rattle.std.proofs.lemmas.Bool.{cases_lt}
 use Rattle.store.specs.Images.{part}
+use Rattle.paged.specs.declared.pages.TheConstants.{POOL}
 use Rattle.paged.specs.Pages.{places, pool_pages, page_at, all_pages, filled_pages, paged_set, Mapped}
-use Rattle.paged.specs.PageLaws.{length_page, length_all}
+use Rattle.paged.proofs.PageLaws.{length_page, length_all}
 
 -- where a position's byte lies
 pub getD_pages : (pool ks : List ℕ) (p : ℕ) → AllByRecursion (λ k. k ≤ pool_pages pool) ks → p < 256 * length ks → slice_index (flat_map (page_at pool) ks) p ≡ slice_index (page_at pool (slice_index ks (p / 256))) (p % 256)
@@ -59,4 +61,4 @@ pages_none pool (k ∷ ks) p h =
 -- the set hangs on the lengths of the map and the pool alone
 pub same_set : (table old pool was : List ℕ) → length table ≡ length old → length pool ≡ length was → paged_set table pool ≡ paged_set old was
 unfolding paged_set
-same_set table old pool was e f = (λ i. λ (b : List ℕ). nat_le (length b) (256 * min (e i) 65536) && nat_le (filled_pages b) (min (f i / 256) 65535))
+same_set table old pool was e f = (λ i. λ (b : List ℕ). nat_le (length b) (256 * min (e i) 65536) && nat_le (filled_pages b) (min (f i / 256) POOL))

@@ -4,10 +4,14 @@ use lib.ListN.{length-replicate}
 use Rattle.std.proofs.lemmas.List.{get_or-take, get_or-drop, ext_get_or, get_or_past}
 use Rattle.std.proofs.lemmas.Bool.{cases_lt, cases_eq, and_left, and_right, both_ways, eq-eqb, ne_eqb}
 use Rattle.std.specs.Int.{from_bool}
-use Rattle.store.specs.Images.{overwritten}
+use Rattle.store.specs.Images.{image_with}
 use Rattle.store.proofs.ImageLaws.{length_overwritten, overwritten_after, overwritten_before, overwritten_in}
-use Rattle.paged.specs.Pages.{places, pool_pages, page_at, page_of, blank, all_pages, filled_from, Mapped, Placed, Sound, Kept}
-use Rattle.paged.specs.PageLaws.{length_page, length_all}
+use Rattle.paged.specs.declared.pages.TheConstants.{POOL}
+use Rattle.paged.specs.Pages.{places, pool_pages, page_at, page_of, blank, all_pages, filled_from, Mapped, PagesPlaced, SoundPages}
+use Rattle.paged.specs.State.{all_of, blank_after, SoundIn, InPage, PutAt}
+use Rattle.paged.specs.declared.pages.paging.Paging.{Paging}
+use Rattle.paged.proofs.Rest.{Kept}
+use Rattle.paged.proofs.PageLaws.{length_page, length_all}
 use Rattle.paged.proofs.FilledLaws.{blank_all, blank_at, getD_page, page_same, filled_step, weight_one, weight_none}
 use Rattle.paged.proofs.Steps.{spot, page_spot, at_spot}
 
@@ -39,24 +43,24 @@ blank_append (x ∷ xs) ys = both (eqb x 0) (blank (xs ++ ys)) (blank xs) (blank
     both true u v w e = e
     both false u v w e = refl
 
-pub blank_over : (page : List ℕ) (from : ℕ) (bytes : List ℕ) → blank (overwritten page from bytes) ≡ (blank (take from page) && (blank bytes && blank (drop (from + length bytes) page)))
+pub blank_over : (page : List ℕ) (from : ℕ) (bytes : List ℕ) → blank (image_with page from bytes) ≡ (blank (take from page) && (blank bytes && blank (drop (from + length bytes) page)))
 blank_over page from bytes =
     blank_append (take from page) (bytes ++ drop (from + length bytes) page)
     ∙ ap (λ t. blank (take from page) && t) (blank_append bytes (drop (from + length bytes) page))
 
 -- blank bytes in a blank page
-pub blank_in_blank : (page : List ℕ) (from : ℕ) (bytes : List ℕ) → blank page ≡ true → blank bytes ≡ true → blank (overwritten page from bytes) ≡ true
+pub blank_in_blank : (page : List ℕ) (from : ℕ) (bytes : List ℕ) → blank page ≡ true → blank bytes ≡ true → blank (image_with page from bytes) ≡ true
 blank_in_blank page from bytes p b =
     let front : blank (take from page) ≡ true = blank_all (take from page)
     (λ r. ⊎_elim (λ low. get_or-take from page r 0 low ∙ blank_at page r p) (λ high. get_or_past (take from page) r 0 (omega (arith, length-take from page))) (cases_lt r from)) in
     let back : blank (drop (from + length bytes) page) ≡ true = blank_all (drop (from + length bytes) page) (λ r. get_or-drop (from + length bytes) page r 0 ∙ blank_at page (from + length bytes + r) p) in
     blank_over page from bytes ∙ (λ i. front i && (b i && back i))
 
-pub blank_none : (page : List ℕ) (from : ℕ) (bytes : List ℕ) → blank bytes ≡ false → blank (overwritten page from bytes) ≡ false
+pub blank_none : (page : List ℕ) (from : ℕ) (bytes : List ℕ) → blank bytes ≡ false → blank (image_with page from bytes) ≡ false
 blank_none page from bytes h =
     blank_over page from bytes ∙ and_right (blank (take from page)) (blank bytes && blank (drop (from + length bytes) page)) (and_left (blank bytes) (blank (drop (from + length bytes) page)) h)
 
-pub blank_around : (page : List ℕ) (from : ℕ) (bytes : List ℕ) → blank bytes ≡ true → blank (overwritten page from bytes) ≡ (blank (take from page) && blank (drop (from + length bytes) page))
+pub blank_around : (page : List ℕ) (from : ℕ) (bytes : List ℕ) → blank bytes ≡ true → blank (image_with page from bytes) ≡ (blank (take from page) && blank (drop (from + length bytes) page))
 blank_around page from bytes h = blank_over page from bytes ∙ ap (λ t. blank (take from page) && (t && blank (drop (from + length bytes) page))) h
 
 pub blank_zeros : (n : ℕ) → blank (replicate n 0) ≡ true
@@ -68,24 +72,24 @@ module _ (b : List ℕ) (i from : ℕ) (bytes : List ℕ) (inside : from + lengt
   fits : 256 * i + from + length bytes ≤ length b
   fits = omega arith
 
-  pub over_outside : (p : ℕ) → p / 256 ≢ i → get_or (overwritten b (256 * i + from) bytes) p 0 ≡ get_or b p 0
+  pub over_outside : (p : ℕ) → p / 256 ≢ i → get_or (image_with b (256 * i + from) bytes) p 0 ≡ get_or b p 0
   over_outside p ne =
       ⊎_elim
       (λ low. overwritten_before b (256 * i + from) bytes fits p low)
       (λ high. overwritten_after b (256 * i + from) bytes fits p (omega arith))
       (cases_lt p (256 * i + from))
 
-  pub page_over : page_of (overwritten b (256 * i + from) bytes) i ≡ overwritten (page_of b i) from bytes
+  pub page_over : page_of (image_with b (256 * i + from) bytes) i ≡ image_with (page_of b i) from bytes
   page_over =
       let lo = length_overwritten b (256 * i + from) bytes fits in
       let lp : length (page_of b i) ≡ 256 = simp (length-take, length-drop) (omega arith) in
-      let ln : length (page_of (overwritten b (256 * i + from) bytes) i) ≡ 256 = page_length (overwritten b (256 * i + from) bytes) (omega arith) in
+      let ln : length (page_of (image_with b (256 * i + from) bytes) i) ≡ 256 = page_length (image_with b (256 * i + from) bytes) (omega arith) in
       let room : from + length bytes ≤ length (page_of b i) = omega arith in
-      ext_get_or 0 (page_of (overwritten b (256 * i + from) bytes) i) (overwritten (page_of b i) from bytes)
+      ext_get_or 0 (page_of (image_with b (256 * i + from) bytes) i) (image_with (page_of b i) from bytes)
       (ln ∙ sym lp ∙ sym (length_overwritten (page_of b i) from bytes room))
       (λ r l.
       let low : r < 256 = omega arith in
-      getD_page (overwritten b (256 * i + from) bytes) i r low
+      getD_page (image_with b (256 * i + from) bytes) i r low
       ∙ ⊎_elim
       (λ before. overwritten_before b (256 * i + from) bytes fits (256 * i + r) (omega arith) ∙ sym (getD_page b i r low) ∙ sym (overwritten_before (page_of b i) from bytes room r before))
       (λ on.
@@ -114,21 +118,21 @@ page_settles a b i e h x y =
     (cases_eq (p / 256) i))
 
 -- bytes put into page i of sound pages
-module _ (table pool spare : List ℕ) (used i from : ℕ) (bytes : List ℕ) (sound : Sound table pool spare used) (here : i < places table) (inside : from + length bytes ≤ 256) where
+module _ (table pool spare : List ℕ) (used i from : ℕ) (bytes : List ℕ) (sound : SoundPages table pool spare used) (here : i < places table) (inside : from + length bytes ≤ 256) where
   long : length (all_pages table pool) ≡ 256 * places table
   long = length_all table pool sound.placed.mapped
 
   pub page_fits : 256 * i + 256 ≤ length (all_pages table pool)
   page_fits = omega (arith, long)
 
-  same_length : length (overwritten (all_pages table pool) (256 * i + from) bytes) ≡ length (all_pages table pool)
+  same_length : length (image_with (all_pages table pool) (256 * i + from) bytes) ≡ length (all_pages table pool)
   same_length = length_overwritten (all_pages table pool) (256 * i + from) bytes (omega (arith, page_fits))
 
   -- how the count changes
-  pub put_count : filled_from (places table) (overwritten (all_pages table pool) (256 * i + from) bytes) + cond (eqb (get_or table i 0) 0) 0 1 ≡ used + cond (blank (overwritten (page_of (all_pages table pool) i) from bytes)) 0 1
+  pub put_count : filled_from (places table) (image_with (all_pages table pool) (256 * i + from) bytes) + cond (eqb (get_or table i 0) 0) 0 1 ≡ used + cond (blank (image_with (page_of (all_pages table pool) i) from bytes)) 0 1
   put_count =
       let all : List ℕ = all_pages table pool in
-      let new : List ℕ = overwritten all (256 * i + from) bytes in
+      let new : List ℕ = image_with all (256 * i + from) bytes in
       omega (
         arith,
         filled_step (places table) i all new here (sym same_length) (λ p ne. sym (over_outside all i from bytes inside page_fits p ne)),
@@ -137,16 +141,16 @@ module _ (table pool spare : List ℕ) (used i from : ℕ) (bytes : List ℕ) (s
         sound.counted,
       )
 
-  pub sound_put : (T P S : List ℕ) (U : ℕ) → Placed T P S U → Kept table pool T P → all_pages T P ≡ overwritten (all_pages table pool) (256 * i + from) bytes → ((j : ℕ) → j ≢ i → get_or T j 0 ≡ get_or table j 0)
-      → blank (overwritten (page_of (all_pages table pool) i) from bytes) ≡ eqb (get_or T i 0) 0
+  pub sound_put : (T P S : List ℕ) (U : ℕ) → PagesPlaced T P S U → Kept table pool T P → all_pages T P ≡ image_with (all_pages table pool) (256 * i + from) bytes → ((j : ℕ) → j ≢ i → get_or T j 0 ≡ get_or table j 0)
+      → blank (image_with (page_of (all_pages table pool) i) from bytes) ≡ eqb (get_or T i 0) 0
       → U + cond (eqb (get_or table i 0) 0) 0 1 ≡ used + cond (eqb (get_or T i 0) 0) 0 1
-      → filled_from (places table) (overwritten (all_pages table pool) (256 * i + from) bytes) ≤ pool_pages pool
-      → Sound T P S U
+      → filled_from (places table) (image_with (all_pages table pool) (256 * i + from) bytes) ≤ pool_pages pool
+      → SoundPages T P S U
   sound_put T P S U placed kept pages others mark step room =
       let all : List ℕ = all_pages table pool in
-      let new : List ℕ = overwritten all (256 * i + from) bytes in
+      let new : List ℕ = image_with all (256 * i + from) bytes in
       let width : places T ≡ places table = ap (λ n. min n 65536) kept.map_length in
-      let depth : pool_pages P ≡ pool_pages pool = ap (λ n. min (n / 256) 65535) kept.pool_length in
+      let depth : pool_pages P ≡ pool_pages pool = ap (λ n. min (n / 256) POOL) kept.pool_length in
       let count : U ≡ filled_from (places table) new = omega (arith, put_count, ap {B = ℕ} (λ t. cond t 0 1) mark) in
       record {
         placed = placed;
@@ -163,7 +167,7 @@ module _ (table pool spare : List ℕ) (used i from : ℕ) (bytes : List ℕ) (s
       }
 
 -- a page that is zeroed whole is blank
-pub blank_zeroed : (b : List ℕ) (i : ℕ) → blank (overwritten (page_of b i) 0 (replicate 256 0)) ≡ true
+pub blank_zeroed : (b : List ℕ) (i : ℕ) → blank (image_with (page_of b i) 0 (replicate 256 0)) ≡ true
 blank_zeroed b i =
     let page : List ℕ = page_of b i in
     let zeros : List ℕ = replicate 256 0 in
@@ -173,23 +177,29 @@ blank_zeroed b i =
     blank_over page 0 zeros ∙ (λ k. blank_zeros 256 k && back k)
 
 -- a page that becomes blank may as well be zeroed
-pub zeroed_page : (b : List ℕ) (i from : ℕ) (bytes : List ℕ) → from + length bytes ≤ 256 → 256 * i + 256 ≤ length b → blank (overwritten (page_of b i) from bytes) ≡ true → overwritten b (256 * i) (replicate 256 0) ≡ overwritten b (256 * i + from) bytes
+pub zeroed_page : (b : List ℕ) (i from : ℕ) (bytes : List ℕ) → from + length bytes ≤ 256 → 256 * i + 256 ≤ length b → blank (image_with (page_of b i) from bytes) ≡ true → image_with b (256 * i) (replicate 256 0) ≡ image_with b (256 * i + from) bytes
 zeroed_page b i from bytes inside whole empty =
     let zeros : List ℕ = replicate 256 0 in
     let lz : length zeros ≡ 256 = length-replicate {A = ℕ} 256 0 in
     let all : 0 + length zeros ≤ 256 = omega arith in
-    let e : overwritten b (256 * i) zeros ≡ overwritten b (256 * i + 0) zeros = ap (λ o. overwritten b o zeros) (sym (add-zero (256 * i))) in
-    let z : List ℕ = overwritten b (256 * i + 0) zeros in
+    let e : image_with b (256 * i) zeros ≡ image_with b (256 * i + 0) zeros = ap (λ o. image_with b o zeros) (sym (add-zero (256 * i))) in
+    let z : List ℕ = image_with b (256 * i + 0) zeros in
     let none : blank (page_of z i) ≡ true = ap blank (page_over b i 0 zeros all whole) ∙ blank_zeroed b i in
-    e ∙ page_settles z (overwritten b (256 * i + from) bytes) i
+    e ∙ page_settles z (image_with b (256 * i + from) bytes) i
     (length_overwritten b (256 * i + 0) zeros (omega arith) ∙ sym (length_overwritten b (256 * i + from) bytes (omega arith)))
     (λ p ne. over_outside b i 0 zeros all whole p ne ∙ sym (over_outside b i from bytes inside whole p ne))
     none (ap blank (page_over b i from bytes inside whole) ∙ empty)
 
+-- a page that was cleared has the bytes that were to make it blank
+pub cleared_put : (s u : Paging) (i from : ℕ) (bytes : List ℕ) → SoundIn s → InPage s i from (length bytes) → blank_after s i from bytes ≡ true → PutAt s u (256 * i) (replicate 256 0) → PutAt s u (256 * i + from) bytes
+cleared_put s u i from bytes sound here empty put =
+    let fits = page_fits s.map.now s.pool.now s.spare s.used i from bytes sound here.0 here.1 in
+    record { kept = put.kept; pages = put.pages ∙ zeroed_page (all_of s) i from bytes here.1 fits empty }
+
 -- blank bytes leave a blank page
-pub kept_page : (b : List ℕ) (i from : ℕ) (bytes : List ℕ) → from + length bytes ≤ 256 → 256 * i + 256 ≤ length b → blank (page_of b i) ≡ true → blank (overwritten (page_of b i) from bytes) ≡ true → b ≡ overwritten b (256 * i + from) bytes
+pub kept_page : (b : List ℕ) (i from : ℕ) (bytes : List ℕ) → from + length bytes ≤ 256 → 256 * i + 256 ≤ length b → blank (page_of b i) ≡ true → blank (image_with (page_of b i) from bytes) ≡ true → b ≡ image_with b (256 * i + from) bytes
 kept_page b i from bytes inside whole was empty =
-    page_settles b (overwritten b (256 * i + from) bytes) i (sym (length_overwritten b (256 * i + from) bytes (omega arith)))
+    page_settles b (image_with b (256 * i + from) bytes) i (sym (length_overwritten b (256 * i + from) bytes (omega arith)))
     (λ p ne. sym (over_outside b i from bytes inside whole p ne)) was (ap blank (page_over b i from bytes inside whole) ∙ empty)
 
 -- 1 for a page that is not blank, and 0 for a blank one

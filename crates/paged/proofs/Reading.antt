@@ -3,10 +3,10 @@ use Rattle.std.proofs.Common.{◌≡◌, ℕ, suc, ◌+◌, ◌-◌, ◌*◌, �
 use lib.ListN.{length-replicate}
 use Rattle.std.proofs.lemmas.List.{get_or-take, get_or-drop, get_or-replicate, ext_get_or}
 use Rattle.std.proofs.lemmas.Bool.{cases_lt}
-use Rattle.store.specs.Images.{part, overwritten}
+use Rattle.store.specs.Images.{part, image_with}
 use Rattle.store.proofs.ImageLaws.{overwritten_before, overwritten_in}
 use Rattle.paged.specs.Pages.{places, all_pages, Mapped}
-use Rattle.paged.specs.PageLaws.{length_all}
+use Rattle.paged.proofs.PageLaws.{length_all}
 use Rattle.paged.proofs.Steps.{spot, at_spot}
 
 -- a part of page i, from the pool page or from none
@@ -43,7 +43,7 @@ module _ (table pool : List ℕ) (i from count : ℕ) (mapped : Mapped table poo
       ∙ sym (at r low ∙ ap (λ v. spot pool v (from + r)) value))
 
 -- one part more in the buffer
-pub read_more : (all buf : List ℕ) (offset d m : ℕ) → d ≤ m → m ≤ length buf → offset + m ≤ length all → ((k : ℕ) → k < d → get_or buf k 0 ≡ get_or all (offset + k) 0) → (k : ℕ) → k < m → get_or (overwritten buf d (part all (offset + d) (m - d))) k 0 ≡ get_or all (offset + k) 0
+pub read_more : (all buf : List ℕ) (offset d m : ℕ) → d ≤ m → m ≤ length buf → offset + m ≤ length all → ((k : ℕ) → k < d → get_or buf k 0 ≡ get_or all (offset + k) 0) → (k : ℕ) → k < m → get_or (image_with buf d (part all (offset + d) (m - d))) k 0 ≡ get_or all (offset + k) 0
 read_more all buf offset d m order most fits first k l =
     let new : List ℕ = part all (offset + d) (m - d) in
     let ln : length new ≡ m - d = simp (length-take, length-drop) (omega arith) in

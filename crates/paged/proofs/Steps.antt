@@ -3,10 +3,12 @@ use Rattle.std.proofs.Common.{◌≡◌, ℕ, zero, suc, ◌+◌, ◌-◌, ◌*�
 use lib.ListN.{length-replicate}
 use Rattle.std.proofs.lemmas.List.{get_or-take, get_or-drop, ext_get_or, get_or-set_same, get_or-set_other, get_or-replicate, drop-set-lt}
 use Rattle.std.proofs.lemmas.Bool.{cases_lt, cases_eq}
-use Rattle.store.specs.Images.{overwritten}
+use Rattle.store.specs.Images.{image_with}
 use Rattle.store.proofs.ImageLaws.{length_overwritten, drop_overwritten, overwritten_in, overwritten_before, overwritten_after}
-use Rattle.paged.specs.Pages.{places, pool_pages, page_at, all_pages, Mapped, Apart, SpareIn, SpareApart, SpareFree, Placed, Kept}
-use Rattle.paged.specs.PageLaws.{length_all, all_mapped}
+use Rattle.paged.specs.declared.pages.TheConstants.{POOL}
+use Rattle.paged.specs.Pages.{places, pool_pages, page_at, all_pages, Mapped, PlacesApart, SpareIn, SpareApart, SpareFree, PagesPlaced}
+use Rattle.paged.proofs.Rest.{Kept}
+use Rattle.paged.proofs.PageLaws.{length_all, all_mapped}
 use Rattle.paged.proofs.PageBytes.{zero_page, getD_pages}
 
 -- the byte at place r of a map value's page
@@ -26,7 +28,7 @@ at_spot table pool p h l =
 
 -- the pool after a write into its page n
 abbrev pub pool' : List ℕ → ℕ → ℕ → List ℕ → List ℕ
-pool' pool n from bytes = overwritten pool (256 * n + from) bytes
+pool' pool n from bytes = image_with pool (256 * n + from) bytes
 
 module _ (pool : List ℕ) (n from : ℕ) (bytes : List ℕ) (inside : from + length bytes ≤ 256) (whole : 256 * n + 256 ≤ length pool) where
   fits : 256 * n + from + length bytes ≤ length pool
@@ -53,17 +55,17 @@ module _ (pool : List ℕ) (n from : ℕ) (bytes : List ℕ) (inside : from + le
 
 -- the map's places stay within a pool of the same length
 pub mapped_over : (table pool new : List ℕ) → length new ≡ length pool → Mapped table pool → Mapped table new
-mapped_over table pool new e h i l = omega (arith, h i l, ap (λ n. min (n / 256) 65535) e)
+mapped_over table pool new e h i l = omega (arith, h i l, ap (λ n. min (n / 256) POOL) e)
 
 -- bytes put into the page of place i, which has pool page n
-module _ (table pool : List ℕ) (i n from : ℕ) (bytes : List ℕ) (mapped : Mapped table pool) (apart : Apart table) (here : i < places table) (value : get_or table i 0 ≡ suc n) (inside : from + length bytes ≤ 256) where
+module _ (table pool : List ℕ) (i n from : ℕ) (bytes : List ℕ) (mapped : Mapped table pool) (apart : PlacesApart table) (here : i < places table) (value : get_or table i 0 ≡ suc n) (inside : from + length bytes ≤ 256) where
   whole : 256 * n + 256 ≤ length pool
   whole = omega (arith, mapped i here)
 
   others : (j : ℕ) → j < places table → j ≢ i → get_or table j 0 ≢ suc n
   others j l ne e = ne (sym (apart i j (here, l, omega arith, value ∙ sym e)))
 
-  each : (p : ℕ) → p < 256 * places table → spot (pool' pool n from bytes) (get_or table (p / 256) 0) (p % 256) ≡ get_or (overwritten (all_pages table pool) (256 * i + from) bytes) p 0
+  each : (p : ℕ) → p < 256 * places table → spot (pool' pool n from bytes) (get_or table (p / 256) 0) (p % 256) ≡ get_or (image_with (all_pages table pool) (256 * i + from) bytes) p 0
   each p l =
       let long = length_all table pool mapped in
       let room : 256 * i + from + length bytes ≤ length (all_pages table pool) = omega arith in
@@ -93,31 +95,18 @@ module _ (table pool : List ℕ) (i n from : ℕ) (bytes : List ℕ) (mapped : M
       (cases_lt (p / 256) i))
       (cases_eq (p / 256) i)
 
-  pub stored : all_pages table (pool' pool n from bytes) ≡ overwritten (all_pages table pool) (256 * i + from) bytes
+  pub stored : all_pages table (pool' pool n from bytes) ≡ image_with (all_pages table pool) (256 * i + from) bytes
   stored =
       let kept : length (pool' pool n from bytes) ≡ length pool = length_overwritten pool (256 * n + from) bytes (omega (arith, whole)) in
       let mapped' = mapped_over table pool (pool' pool n from bytes) kept mapped in
       let long = length_all table pool mapped in
       let long' = length_all table (pool' pool n from bytes) mapped' in
       let room : 256 * i + from + length bytes ≤ length (all_pages table pool) = omega arith in
-      ext_get_or 0 (all_pages table (pool' pool n from bytes)) (overwritten (all_pages table pool) (256 * i + from) bytes)
+      ext_get_or 0 (all_pages table (pool' pool n from bytes)) (image_with (all_pages table pool) (256 * i + from) bytes)
       (long' ∙ sym long ∙ sym (length_overwritten (all_pages table pool) (256 * i + from) bytes room))
       (λ p l. let l' : p < 256 * places table = omega arith in at_spot table (pool' pool n from bytes) p mapped' l' ∙ each p l')
 
--- what no step touches
-pub kept_none : (table pool : List ℕ) → Kept table pool table pool
-kept_none table pool = record { map_length = refl; pool_length = refl; map_rest = refl; pool_rest = refl }
-
-pub kept_on : (a b a' b' a'' b'' : List ℕ) → Kept a b a' b' → Kept a' b' a'' b'' → Kept a b a'' b''
-kept_on a b a' b' a'' b'' h k =
-    let same : pool_pages b' ≡ pool_pages b = ap (λ n. min (n / 256) 65535) h.pool_length in
-    record {
-      map_length = k.map_length ∙ h.map_length;
-      pool_length = k.pool_length ∙ h.pool_length;
-      map_rest = k.map_rest ∙ h.map_rest;
-      pool_rest = ap (λ n. drop (256 * n) b'') (sym same) ∙ k.pool_rest ∙ ap (λ n. drop (256 * n) b') same ∙ h.pool_rest;
-    }
-
+-- what each step leaves
 pub kept_step : (table pool : List ℕ) (i v n from : ℕ) (bytes : List ℕ) → i < places table → n < pool_pages pool → from + length bytes ≤ 256 → Kept table pool (set table i v) (pool' pool n from bytes)
 kept_step table pool i v n from bytes here l inside = record {
   map_length = length-set table i v;
@@ -138,9 +127,9 @@ kept_pool table pool n from bytes l inside = record {
 }
 
 -- a pool of the same length keeps what is placed
-pub placed_over : (table pool new spare : List ℕ) (used : ℕ) → length new ≡ length pool → Placed table pool spare used → Placed table new spare used
+pub placed_over : (table pool new spare : List ℕ) (used : ℕ) → length new ≡ length pool → PagesPlaced table pool spare used → PagesPlaced table new spare used
 placed_over table pool new spare used e h =
-    let same : pool_pages new ≡ pool_pages pool = ap (λ n. min (n / 256) 65535) e in
+    let same : pool_pages new ≡ pool_pages pool = ap (λ n. min (n / 256) POOL) e in
     record {
       mapped = mapped_over table pool new e h.mapped;
       apart = h.apart;
@@ -149,7 +138,7 @@ placed_over table pool new spare used e h =
       spare_free = λ i j l. h.spare_free i j (l.0, l.1, omega (arith, l.2), l.3);
     }
 
-pub apart_claim : (table : List ℕ) (i v : ℕ) → i < places table → Apart table → ((j : ℕ) → j < places table → get_or table j 0 ≡ v → ⊥) → Apart (set table i v)
+pub apart_claim : (table : List ℕ) (i v : ℕ) → i < places table → PlacesApart table → ((j : ℕ) → j < places table → get_or table j 0 ≡ v → ⊥) → PlacesApart (set table i v)
 apart_claim table i v here apart new j k h =
     let less = ap (λ m. min m 65536) (length-set table i v) in
     let at : get_or (set table i v) i 0 ≡ v = get_or-set_same table i v 0 (omega arith) in
@@ -167,7 +156,7 @@ apart_claim table i v here apart new j k h =
     (cases_eq k i))
     (cases_eq j i)
 
-pub apart_release : (table : List ℕ) (i : ℕ) → i < places table → Apart table → Apart (set table i 0)
+pub apart_release : (table : List ℕ) (i : ℕ) → i < places table → PlacesApart table → PlacesApart (set table i 0)
 apart_release table i here apart j k h =
     let less = ap (λ m. min m 65536) (length-set table i 0) in
     let none : get_or (set table i 0) i 0 ≡ 0 = get_or-set_same table i 0 0 (omega arith) in
@@ -184,7 +173,7 @@ apart_release table i here apart j k h =
     (cases_eq j i)
 
 -- the first spare page k, cleared, given to place i, whose page is zeros
-module _ (table pool spare : List ℕ) (used i : ℕ) (placed : Placed table pool spare used) (here : i < places table) (none : get_or table i 0 ≡ 0) (room : used < pool_pages pool) where
+module _ (table pool spare : List ℕ) (used i : ℕ) (placed : PagesPlaced table pool spare used) (here : i < places table) (none : get_or table i 0 ≡ 0) (room : used < pool_pages pool) where
   pub spare_within : get_or spare used 0 < pool_pages pool
   spare_within = placed.spare_in used (omega arith, room)
 
@@ -201,7 +190,7 @@ module _ (table pool spare : List ℕ) (used i : ℕ) (placed : Placed table poo
   mapped_claim new e j l =
       let v : ℕ = get_or spare used 0 + 1 in
       let lt : j < places table = omega (arith, same_places v) in
-      let room = ap (λ n. min (n / 256) 65535) e in
+      let room = ap (λ n. min (n / 256) POOL) e in
       ⊎_elim
       (λ (is : j ≡ i). omega (arith, at_i v, ap (λ m. get_or (set table i v) m 0) is, spare_within))
       (λ (ne : j ≡ i → ⊥). omega (arith, get_or-set_other table i j v 0 ne, placed.mapped j lt))
@@ -220,7 +209,7 @@ module _ (table pool spare : List ℕ) (used i : ℕ) (placed : Placed table poo
       placed.spare_free m j (omega (arith, h.0, same_places v), omega (arith, h.1), h.2, sym (get_or-set_other table i m v 0 ne) ∙ h.3))
       (cases_eq m i)
 
-  pub placed_claim : (new : List ℕ) → length new ≡ length pool → Placed (set table i (get_or spare used 0 + 1)) new spare (used + 1)
+  pub placed_claim : (new : List ℕ) → length new ≡ length pool → PagesPlaced (set table i (get_or spare used 0 + 1)) new spare (used + 1)
   placed_claim new e = placed_over (set table i (get_or spare used 0 + 1)) pool new spare (used + 1) e (record {
     mapped = mapped_claim pool refl;
     apart = apart_claim table i (get_or spare used 0 + 1) here placed.apart fresh;
@@ -259,7 +248,7 @@ module _ (table pool spare : List ℕ) (used i : ℕ) (placed : Placed table poo
       ∙ sym (at_spot table pool p placed.mapped l''))
 
 -- the pool page n of place i, taken back
-module _ (table pool spare : List ℕ) (used i n : ℕ) (placed : Placed table pool spare used) (here : i < places table) (value : get_or table i 0 ≡ suc n) (some : 0 < used) (most : used ≤ pool_pages pool) (long : length spare ≡ 65535) where
+module _ (table pool spare : List ℕ) (used i n : ℕ) (placed : PagesPlaced table pool spare used) (here : i < places table) (value : get_or table i 0 ≡ suc n) (some : 0 < used) (most : used ≤ pool_pages pool) (long : length spare ≡ POOL) where
   fewer : places (set table i 0) ≡ places table
   fewer = ap (λ m. min m 65536) (length-set table i 0)
 
@@ -320,10 +309,10 @@ module _ (table pool spare : List ℕ) (used i n : ℕ) (placed : Placed table p
       (cases_eq j (used - 1)))
       (cases_eq m i)
 
-  pub placed_release : Placed (set table i 0) pool (set spare (used - 1) n) (used - 1)
+  pub placed_release : PagesPlaced (set table i 0) pool (set spare (used - 1) n) (used - 1)
   placed_release = record { mapped = mapped_release; apart = apart_release table i here placed.apart; spare_in = in_release; spare_apart = apart_spare; spare_free = free_release }
 
-  pub released : all_pages (set table i 0) pool ≡ overwritten (all_pages table pool) (256 * i) (replicate 256 0)
+  pub released : all_pages (set table i 0) pool ≡ image_with (all_pages table pool) (256 * i) (replicate 256 0)
   released =
       let all : List ℕ = all_pages table pool in
       let zeros : List ℕ = replicate 256 0 in
@@ -331,7 +320,7 @@ module _ (table pool spare : List ℕ) (used i n : ℕ) (placed : Placed table p
       let la = length_all table pool placed.mapped in
       let fits : 256 * i + length zeros ≤ length all = omega arith in
       let ln = length_all (set table i 0) pool mapped_release in
-      ext_get_or 0 (all_pages (set table i 0) pool) (overwritten all (256 * i) zeros)
+      ext_get_or 0 (all_pages (set table i 0) pool) (image_with all (256 * i) zeros)
       (ln ∙ ap (λ m. 256 * m) fewer ∙ sym la ∙ sym (length_overwritten all (256 * i) zeros fits))
       (λ p l.
       let l' : p < 256 * places (set table i 0) = omega arith in

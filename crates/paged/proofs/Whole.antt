@@ -1,36 +1,30 @@
--- What a change of the pages makes of the image. Rests on the laws of pages, of filled pages and of images.
+-- What a change of the pages makes of the image. Rests on the laws of pages, of filled pages and of
+-- images.
 use Rattle.std.proofs.Common.{◌≡◌, ℕ, ◌+◌, ◌-◌, ◌*◌, ◌<◌, ◌≤◌, min, ◌&&◌, leb, List, length, get_or, take, replicate, sym, ap, ◌∙◌, ⊎_elim, arith, length-take}
 use lib.ListN.{length-replicate}
 use Rattle.std.proofs.lemmas.List.{get_or-take, get_or_past, get_or-replicate, ext_get_or}
 use Rattle.std.proofs.lemmas.Bool.{cases_lt, le-leb, eqb-true}
-use Rattle.store.specs.Images.{overwritten, resized}
+use Rattle.store.specs.Images.{image_with, image_of_size}
 use Rattle.store.proofs.ImageLaws.{getD_resized, length_overwritten, length_resized, overwritten_after, overwritten_before, overwritten_in, take_overwritten}
-use Rattle.paged.specs.Pages.{places, pool_pages, all_pages, filled_from, filled_pages, paged_set, ZeroFrom, Ended, Sound, Valid}
-use Rattle.paged.specs.PageLaws.{length_all}
+use Rattle.paged.specs.Pages.{places, pool_pages, all_pages, filled_from, filled_pages, paged_set, ZeroFrom, Ended, SoundPages, Valid}
+use Rattle.paged.proofs.PageLaws.{length_all}
 use Rattle.paged.proofs.PageBytes.{length_image}
 use Rattle.paged.proofs.FilledLaws.{filled_cut, filled_mono, page_blank}
 use Rattle.paged.proofs.Puts.{and_true}
+use Rattle.paged.proofs.Rest.{width_kept}
+use Rattle.paged.specs.State.{pool_of, all_of, filled_after, PutAt}
+use Rattle.paged.specs.Paged.{paged_image, paged_holds}
 use Rattle.paged.specs.declared.image.PagedImage.{PagedImage}
+use Rattle.paged.specs.declared.pages.Pages.{Pages}
 
 -- an image's pages have the whole image
 pub fits_of : (s : PagedImage) → s.size ≤ 256 * places s.pages.paging.map.now
 fits_of s =
     let all : List ℕ = all_pages s.pages.paging.map.now s.pages.paging.pool.now in
-    omega (arith, s.long, length-take s.size all, length_all s.pages.paging.map.now s.pages.paging.pool.now s.pages.sound.placed.mapped)
+    omega (arith, s.valid.long, length-take s.size all, length_all s.pages.paging.map.now s.pages.paging.pool.now s.pages.sound.placed.mapped)
 
 pub whole_of : (s : PagedImage) → s.size ≤ length (all_pages s.pages.paging.map.now s.pages.paging.pool.now)
 whole_of s = omega (arith, fits_of s, length_all s.pages.paging.map.now s.pages.paging.pool.now s.pages.sound.placed.mapped)
-
--- sound pages with zeros past a size
-pub valid_of : (table pool spare : List ℕ) (used size : ℕ) → Sound table pool spare used → size ≤ 256 * places table → Ended table pool size → Valid table pool used size
-valid_of table pool spare used size sound fits ended =
-    let all : List ℕ = all_pages table pool in
-    record {
-      long = length_image table pool size sound.placed.mapped fits;
-      counted = sound.counted ∙ sym (filled_cut (places table) size all ended fits);
-      ended = ended;
-      unmapped = λ i l h. eqb-true (get_or table i 0) 0 (sym (sound.filled i l) ∙ page_blank all i (λ r. ended (256 * i + r) (omega arith)));
-    }
 
 -- an image that is short enough is in the set exactly if its filled pages are few enough
 pub by_count : (table pool image : List ℕ) → length image ≤ 256 * places table → paged_set table pool image ≡ leb (filled_pages image) (pool_pages pool)
@@ -42,13 +36,50 @@ pub by_length : (table pool image : List ℕ) → filled_pages image ≤ pool_pa
 unfolding paged_set
 by_length table pool image few = ap (λ t. leb (length image) (256 * places table) && t) (le-leb (filled_pages image) (pool_pages pool) few) ∙ and_true (leb (length image) (256 * places table))
 
+-- sound pages with zeros past a size
+pub valid_of : (table pool spare : List ℕ) (used size : ℕ) → SoundPages table pool spare used → size ≤ 256 * places table → Ended table pool size → Valid table pool used size
+valid_of table pool spare used size sound fits ended =
+    let all : List ℕ = all_pages table pool in
+    let long = length_image table pool size sound.placed.mapped fits in
+    let count = sound.counted ∙ sym (filled_cut (places table) size all ended fits) in
+    record {
+      long = long;
+      held = by_count table pool (take size all) (omega (arith, long)) ∙ le-leb (filled_pages (take size all)) (pool_pages pool) (omega (arith, count, sound.room));
+      counted = count;
+      ended = ended;
+      unmapped = λ i l h. eqb-true (get_or table i 0) 0 (sym (sound.filled i l) ∙ page_blank all i (λ r. ended (256 * i + r) (omega arith)));
+    }
+
 -- a change inside the size
 module _ (all : List ℕ) (size o : ℕ) (bytes : List ℕ) (within : o + length bytes ≤ size) (fits : size ≤ length all) (ended : ZeroFrom size all) where
-  pub ended_over : ZeroFrom size (overwritten all o bytes)
+  pub ended_over : ZeroFrom size (image_with all o bytes)
   ended_over p h = overwritten_after all o bytes (omega arith) p (omega arith) ∙ ended p h
 
-  pub filled_over : (n : ℕ) → size ≤ 256 * n → filled_pages (overwritten (take size all) o bytes) ≡ filled_from n (overwritten all o bytes)
-  filled_over n most = sym (ap filled_pages (take_overwritten size all o bytes within fits)) ∙ filled_cut n size (overwritten all o bytes) ended_over most
+  pub filled_over : (n : ℕ) → size ≤ 256 * n → filled_pages (image_with (take size all) o bytes) ≡ filled_from n (image_with all o bytes)
+  filled_over n most = sym (ap filled_pages (take_overwritten size all o bytes within fits)) ∙ filled_cut n size (image_with all o bytes) ended_over most
+
+-- bytes put into an image
+module _ (s : PagedImage) (o : ℕ) (bytes : List ℕ) (inside : o + length bytes ≤ s.size) where
+  -- the image can be had exactly if there is room for the bytes
+  pub held_put : paged_holds s (image_with (paged_image s) o bytes) ≡ leb (filled_after s.pages.paging o bytes) (pool_of s.pages.paging)
+  held_put =
+      let table : List ℕ = s.pages.paging.map.now in
+      let pool : List ℕ = s.pages.paging.pool.now in
+      let new : List ℕ = image_with (paged_image s) o bytes in
+      let ranged : o + length bytes ≤ length (paged_image s) = omega (arith, inside, s.valid.long) in
+      let short : length new ≤ 256 * places table = omega (arith, length_overwritten (paged_image s) o bytes ranged, s.valid.long, fits_of s) in
+      by_count table pool new short ∙ ap (λ n. leb n (pool_pages pool)) (filled_over (all_pages table pool) s.size o bytes inside (whole_of s) s.valid.ended (places table) (fits_of s))
+
+  -- pages with the bytes have a valid image again
+  pub valid_put : (t : Pages) → PutAt s.pages.paging t.paging o bytes → Valid t.paging.map.now t.paging.pool.now t.paging.used s.size
+  valid_put t put =
+      let width = width_kept s.pages.paging t.paging put.kept in
+      valid_of t.paging.map.now t.paging.pool.now t.paging.spare t.paging.used s.size t.sound (omega (arith, fits_of s))
+      (λ p h. ap (λ b. get_or b p 0) put.pages ∙ ended_over (all_of s.pages.paging) s.size o bytes inside (whole_of s) s.valid.ended p h)
+
+  -- and it is the old one with the bytes
+  pub image_put : (t : Pages) → PutAt s.pages.paging t.paging o bytes → take s.size (all_of t.paging) ≡ image_with (paged_image s) o bytes
+  image_put t put = ap (take s.size) put.pages ∙ take_overwritten s.size (all_of s.pages.paging) o bytes inside (whole_of s)
 
 -- zeros from a position up to the end
 module _ (image : List ℕ) (from start : ℕ) (least : start ≡ min (length image) from) where
@@ -58,17 +89,17 @@ module _ (image : List ℕ) (from start : ℕ) (least : start ≡ min (length im
   room : start + length (replicate {A = ℕ} (length image - start) 0) ≤ length image
   room = omega (arith, count)
 
-  pub cleared_from : ZeroFrom from (overwritten image start (replicate (length image - start) 0))
+  pub cleared_from : ZeroFrom from (image_with image start (replicate (length image - start) 0))
   cleared_from p h =
       ⊎_elim
       (λ low. overwritten_in image start (replicate (length image - start) 0) room p (omega arith) (omega (arith, count)) ∙ get_or-replicate {A = ℕ} (length image - start) (p - start) 0 0 (omega arith))
-      (λ high. get_or_past (overwritten image start (replicate (length image - start) 0)) p 0 (omega (arith, length_overwritten image start (replicate (length image - start) 0) room)))
+      (λ high. get_or_past (image_with image start (replicate (length image - start) 0)) p 0 (omega (arith, length_overwritten image start (replicate (length image - start) 0) room)))
       (cases_lt p (length image))
 
-  pub cleared_front : resized (overwritten image start (replicate (length image - start) 0)) from ≡ resized image from
+  pub cleared_front : image_of_size (image_with image start (replicate (length image - start) 0)) from ≡ image_of_size image from
   cleared_front =
-      let new : List ℕ = overwritten image start (replicate (length image - start) 0) in
-      ext_get_or 0 (resized new from) (resized image from) (length_resized new from ∙ sym (length_resized image from))
+      let new : List ℕ = image_with image start (replicate (length image - start) 0) in
+      ext_get_or 0 (image_of_size new from) (image_of_size image from) (length_resized new from ∙ sym (length_resized image from))
       (λ p l.
       let below : p < from = omega (arith, length_resized new from) in
       getD_resized new from p below
@@ -79,9 +110,9 @@ module _ (image : List ℕ) (from start : ℕ) (least : start ≡ min (length im
       ∙ sym (getD_resized image from p below))
 
 -- another size of the image in pages with zeros past the old one
-pub take_resized : (all : List ℕ) (old size : ℕ) → size ≤ length all → ZeroFrom old all → take size all ≡ resized (take old all) size
+pub take_resized : (all : List ℕ) (old size : ℕ) → size ≤ length all → ZeroFrom old all → take size all ≡ image_of_size (take old all) size
 take_resized all old size most ended =
-    ext_get_or 0 (take size all) (resized (take old all) size) (length-take size all ∙ omega arith ∙ sym (length_resized (take old all) size))
+    ext_get_or 0 (take size all) (image_of_size (take old all) size) (length-take size all ∙ omega arith ∙ sym (length_resized (take old all) size))
     (λ p l.
     let below : p < size = omega (arith, length-take size all) in
     get_or-take size all p 0 below
@@ -91,9 +122,9 @@ take_resized all old size most ended =
     (cases_lt p old))
 
 -- another size needs no more filled pages
-pub resized_fills_less : (image : List ℕ) (size : ℕ) → filled_pages (resized image size) ≤ filled_pages image
+pub resized_fills_less : (image : List ℕ) (size : ℕ) → filled_pages (image_of_size image size) ≤ filled_pages image
 resized_fills_less image size =
     let long = length_resized image size in
-    filled_mono (length (resized image size)) (length image) (resized image size) image
-    (λ p e. ⊎_elim (λ low. getD_resized image size p low ∙ e) (λ high. get_or_past (resized image size) p 0 (omega arith)) (cases_lt p size))
-    (λ p h. ⊎_elim (λ low. getD_resized image size p low ∙ get_or_past image p 0 (omega arith)) (λ high. get_or_past (resized image size) p 0 (omega arith)) (cases_lt p size))
+    filled_mono (length (image_of_size image size)) (length image) (image_of_size image size) image
+    (λ p e. ⊎_elim (λ low. getD_resized image size p low ∙ e) (λ high. get_or_past (image_of_size image size) p 0 (omega arith)) (cases_lt p size))
+    (λ p h. ⊎_elim (λ low. getD_resized image size p low ∙ get_or_past image p 0 (omega arith)) (λ high. get_or_past (image_of_size image size) p 0 (omega arith)) (cases_lt p size))

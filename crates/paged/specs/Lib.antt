@@ -1,4 +1,3 @@
-pub mod PageLaws
 pub mod Paged
 pub mod Pages
 pub mod State

@@ -1,3 +1,3 @@
-mod Handed
-mod Going
-mod Replaying
+mod Windows
+mod Turns
+mod Replayed

@@ -1,5 +1,6 @@
--- A series of calls that is really made: each call as it is asked for, with the window of a buffer that it is lent, and what is left in the end. Rests
--- on series of calls and their outcomes, on the promise about them, on tables, on requests and on the images of a store.
+-- A series of calls that is really made: each call as it is asked for, with the window of a buffer
+-- that it gets, and what is left in the end. Rests on series of calls and their outcomes, on the
+-- promise about them, on tables, on requests and on the images of a store.
 use Rattle.std.specs.Prelude.{◌≡◌, ℕ, ◌+◌, List, [], ◌∷◌, ◌++◌, map, length, take, drop, Ok, Err, Result}
 use Rattle.fault.specs.declared.kinds.Fault.{Fault}
 use Rattle.store.specs.Stores.{Images}
@@ -7,32 +8,36 @@ use Rattle.table.specs.Tables.{Table, empty_table}
 use Rattle.replay.specs.declared.requests.Request.{Request}
 use Rattle.replay.specs.declared.requests.Request.TheVariants.{Put, Join, Settle, List as Show}
 use Rattle.replay.specs.declared.requests.Window.{Window}
-use Rattle.shelf.specs.Outcomes.{make_answer}
+use Rattle.shelf.specs.Outcomes.{CallOutcome, make_answer}
 use Rattle.shelf.specs.Calls.{Call, put, join, settle, list}
-use Rattle.shelf.specs.Series.{World, opened, Event, event, after, events, last}
+use Rattle.shelf.specs.Series.{World, first_world, Event, outcome_of, events, last_world, largest_size}
 use Rattle.shelf.specs.Promise.{ComesBack}
 
--- what a window of a buffer holds, and the buffer with other bytes in the window
+-- the bytes in a window of a buffer, and the buffer with other bytes in the window
 abbrev pub window : Window → List ℕ → List ℕ
 window v buffer = take v.length (drop v.start buffer)
 
 abbrev pub with_window : Window → List ℕ → List ℕ → List ℕ
 with_window v part buffer = take v.start buffer ++ (part ++ drop (v.start + v.length) buffer)
 
--- the call that is asked for, where the buffer is so, and the buffer once the call left its window so
-abbrev pub asked : List ℕ → Request → Call
-asked buffer (Put handed stream) = put handed stream.now
-asked buffer (Join handed i work) = join handed i (window work buffer)
-asked buffer (Settle handed) = settle handed
-asked buffer (Show handed i text) = list handed i (window text buffer)
+-- the outcome of a call that got a window of a buffer, with the whole buffer
+abbrev pub outcome_in_window : Window → List ℕ → CallOutcome → CallOutcome
+outcome_in_window v buffer o = record o { buffer = with_window v o.buffer buffer }
 
-abbrev pub buffer_with : Request → List ℕ → List ℕ → List ℕ
-buffer_with (Put handed stream) part buffer = buffer
-buffer_with (Join handed i work) part buffer = with_window work part buffer
-buffer_with (Settle handed) part buffer = buffer
-buffer_with (Show handed i text) part buffer = with_window text part buffer
+-- the call that is asked for
+abbrev pub call_asked : List ℕ → Request → Call
+call_asked buffer (Put handed stream) = put handed stream.now
+call_asked buffer (Join handed i work) = join handed i (window work buffer)
+call_asked buffer (Settle handed) = settle handed
+call_asked buffer (Show handed i text) = list handed i (window text buffer)
 
--- what a series finds: a shelf, its bytes, the image and the buffer
+-- the whole buffer, where the call left its window so
+abbrev pub whole_buffer : List ℕ → Request → List ℕ → List ℕ
+whole_buffer buffer (Join handed i work) part = with_window work part buffer
+whole_buffer buffer (Show handed i text) part = with_window text part buffer
+whole_buffer buffer r part = buffer
+
+-- a shelf, its bytes, the image and the buffer
 pub record Scene : Type 0 where
   pub world : World
   pub buffer : List ℕ
@@ -40,50 +45,76 @@ pub record Scene : Type 0 where
 abbrev pub scene : Table → List ℕ → List ℕ → List ℕ → Scene
 scene t bytes image buffer = record { world = record { table = t; bytes = bytes; image = image }; buffer = buffer }
 
-abbrev pub answer_of : Event → Result ℕ Fault
-answer_of e = e.answer
+-- what a series is made on besides its shelf: the shelf's bytes, the base image, the buffer, and
+-- the places for answers
+pub record Setting : Type 0 where
+  pub bytes : List ℕ
+  pub image : List ℕ
+  pub buffer : List ℕ
+  pub answers : List (Result ℕ Fault)
+
+abbrev pub setting : List ℕ → List ℕ → List ℕ → List (Result ℕ Fault) → Setting
+setting bytes image buffer answers = record { bytes = bytes; image = image; buffer = buffer; answers = answers }
+
+-- a shelf there, and an empty one
+abbrev pub scene_in : Setting → Table → Scene
+scene_in s t = scene t s.bytes s.image s.buffer
+
+abbrev pub first_scene : List ℕ → Setting → Scene
+first_scene name s = record { world = first_world name s.bytes s.image; buffer = s.buffer }
+
+abbrev pub event_answer : Event → Result ℕ Fault
+event_answer e = e.answer
 
 -- `holds` is the set of images that the store can hold
 module _ (holds : Images) where
-  -- one request: the call that is made, and what is there afterwards
-  abbrev pub happening : Scene → Request → Event
-  happening s r = event holds s.world (asked s.buffer r)
+  -- one request: its outcome, and what is there afterwards
+  abbrev pub request_outcome : Scene → Request → CallOutcome
+  request_outcome s r = record (outcome_of holds s.world (call_asked s.buffer r)) {
+    buffer = whole_buffer s.buffer r (outcome_of holds s.world (call_asked s.buffer r)).buffer;
+  }
 
   abbrev pub scene_after : Scene → Request → Scene
-  scene_after s r = record { world = after holds s.world (asked s.buffer r); buffer = buffer_with r (happening s r).buffer s.buffer }
+  scene_after s r = scene (request_outcome s r).table (request_outcome s r).bytes (request_outcome s r).image (request_outcome s r).buffer
 
   -- the calls that a series of requests makes, and what is there after the last
   abbrev pub calls_made : Scene → List Request → List Call
   calls_made s [] = []
-  calls_made s (r ∷ rs) = asked s.buffer r ∷ calls_made (scene_after s r) rs
+  calls_made s (r ∷ rs) = call_asked s.buffer r ∷ calls_made (scene_after s r) rs
 
   abbrev pub last_scene : Scene → List Request → Scene
   last_scene s [] = s
   last_scene s (r ∷ rs) = last_scene (scene_after s r) rs
 
-  -- every call of the series was made in its turn: `s'` is what is there afterwards, and the answers stand in front of what stood there before
+  -- every call of the series was made in its turn: `s'` is what is there afterwards, and the
+  -- answers are the first of `answers'`, whose others are as they were
   pub record Played (s : Scene) (rs : List Request) (s' : Scene) (answers answers' : List (Result ℕ Fault)) : Type 0 where
-    pub series : s'.world ≡ last holds s.world (calls_made s rs)
+    pub series : s'.world ≡ last_world holds s.world (calls_made s rs)
     pub buffer : s'.buffer ≡ (last_scene s rs).buffer
-    pub answered : answers' ≡ map answer_of (events holds s.world (calls_made s rs)) ++ drop (length rs) answers
+    pub answered : answers' ≡ map event_answer (events holds s.world (calls_made s rs)) ++ drop (length rs) answers
+
+  -- the largest image that there is after any call of a series on an empty shelf
+  abbrev pub largest_replay_size : List ℕ → List Request → Setting → ℕ
+  largest_replay_size name rs s = largest_size holds (first_scene name s).world (calls_made (first_scene name s) (take (length s.answers) rs))
 
   -- a replay from an empty shelf, of as many requests as there are places for answers
-  pub record Replays (name bytes image buffer : List ℕ) (rs : List Request) (s' : Scene) (answers answers' : List (Result ℕ Fault)) : Type 0 where
+  pub record Replays (name : List ℕ) (rs : List Request) (t : Table) (before after : Setting) : Type 0 where
     pub good : make_answer name ≡ Ok (empty_table name)
-    pub played : Played (record { world = opened name bytes image; buffer = buffer }) (take (length answers) rs) s' answers answers'
+    pub played : Played (first_scene name before) (take (length before.answers) rs) (scene_in after t) before.answers after.answers
     -- the base image comes back, and so on: the promise, of this run
-    pub promised : ComesBack image
-        (events holds (opened name bytes image) (calls_made (record { world = opened name bytes image; buffer = buffer }) (take (length answers) rs)))
-        s'.world
+    pub promised : ComesBack before.image
+        (events holds (first_scene name before).world (calls_made (first_scene name before) (take (length before.answers) rs)))
+        (scene_in after t).world
 
-  -- or a name that is refused, and then nothing is altered
-  pub record Unmade (name bytes image buffer : List ℕ) (f : Fault) (bytes' image' buffer' : List ℕ) (answers answers' : List (Result ℕ Fault)) : Type 0 where
+  -- the same of a shelf that was made with a name
+  abbrev pub ReplaysIfNew : List Request → Table → Table → Setting → Setting → Type 0
+  ReplaysIfNew rs new t before after = (name : List ℕ) → Ok new ≡ make_answer name → Replays name rs t before after
+
+  -- or a name that is refused, and then nothing is changed
+  pub record Unmade (name : List ℕ) (f : Fault) (before after : Setting) : Type 0 where
     pub bad : make_answer name ≡ Err f
-    pub bytes_stay : bytes' ≡ bytes
-    pub image_stays : image' ≡ image
-    pub buffer_stays : buffer' ≡ buffer
-    pub answers_stay : answers' ≡ answers
+    pub unchanged : after ≡ before
 
-  abbrev pub Replayed : List ℕ → List ℕ → List ℕ → List ℕ → List Request → List (Result ℕ Fault) → Result Table Fault → List ℕ → List ℕ → List ℕ → List (Result ℕ Fault) → Type 0
-  Replayed name bytes image buffer rs answers (Ok t) bytes' image' buffer' answers' = Replays name bytes image buffer rs (scene t bytes' image' buffer') answers answers'
-  Replayed name bytes image buffer rs answers (Err f) bytes' image' buffer' answers' = Unmade name bytes image buffer f bytes' image' buffer' answers answers'
+  abbrev pub Replayed : List ℕ → List Request → Result Table Fault → Setting → Setting → Type 0
+  Replayed name rs (Ok t) before after = Replays name rs t before after
+  Replayed name rs (Err f) before after = Unmade name f before after

@@ -1,4 +1,4 @@
-// Series of calls on a shelf, really made, and what the shelf promises about every one of them.
+//! Series of calls on a shelf that are really made, with what the shelf promises of their run.
 #![tactic(auto)]
 
 mod handing;

@@ -1,15 +1,17 @@
 // Series of calls on a shelf, made one after another.
-ghost use Rattle.std.specs.Prelude.{◌≡◌, List, length, take};
+ghost use Rattle.std.specs.Prelude.{◌≡◌, ℕ, List, length, Ok};
+ghost use Rattle.replay.specs.Replays.{scene, request_outcome, setting, ReplaysIfNew, Replayed, largest_replay_size};
+ghost use Rattle.shelf.specs.Outcomes.{outcome, make_answer};
 ghost use Rattle.shelf.specs.Promise.{AlwaysComesBack};
-ghost use Rattle.replay.specs.Replays.{scene, happening, scene_after, answer_of, Played, Replayed};
+ghost use Rattle.store.specs.Stores.{KeepsPast};
 
 use crate::handing::{join_handed, list_handed, put_handed, settle_handed};
 use crate::requests::Request;
 use fault::Fault;
-use shelf::Shelf;
+use shelf::{Shelf, laws_of_the_shelf};
 use store::Store;
 
-// Makes one call of a series. (A match: the requests are a closed list.)
+// Makes one call of a series.
 fn make_call<S: Store>(
     shelf: &mut Shelf,
     base: &mut S,
@@ -18,8 +20,13 @@ fn make_call<S: Store>(
     request: Request,
 ) -> Result<usize, Fault>
     ensures same { S.holds base.new ≡ S.holds base.old }
-    ensures answer { result ≡ answer_of (happening (S.holds base.old) (scene shelf.old bytes.old (S.image base.old) buffer.old) request.entry) }
-    ensures left { scene shelf.new bytes.new (S.image base.new) buffer.new ≡ scene_after (S.holds base.old) (scene shelf.old bytes.old (S.image base.old) buffer.old) request.entry }
+    ensures outcome { record (outcome result shelf.new bytes.new) {
+      image = S.image base.new;
+      buffer = buffer.new;
+    }
+        ≡ request_outcome (S.holds base.old)
+        (scene shelf.old bytes.old (S.image base.old) buffer.old) request.entry }
+    ensures past { KeepsPast S.past base.old base.new (length (S.image base.new)) }
 {
     match request {
         Request::Put { handed, stream } => put_handed(shelf, bytes, handed, stream),
@@ -37,7 +44,7 @@ fn make_call<S: Store>(
     }
 }
 
-// Makes a series of calls, as many as there are places for answers.
+// Makes a series of calls on a shelf that was made for it, as many as there are places for answers.
 fn play<S: Store>(
     shelf: &mut Shelf,
     base: &mut S,
@@ -47,7 +54,12 @@ fn play<S: Store>(
     answers: &mut [Result<usize, Fault>],
 )
     ensures same { S.holds base.new ≡ S.holds base.old }
-    ensures played { Played (S.holds base.old) (scene shelf.old bytes.old (S.image base.old) buffer.old) (take (length answers.old) requests.now) (scene shelf.new bytes.new (S.image base.new) buffer.new) answers.old answers.new }
+    ensures past { (name : List ℕ) → Ok shelf.old ≡ make_answer name
+        → KeepsPast S.past base.old base.new (largest_replay_size (S.holds base.old) name requests.now
+        (setting bytes.old (S.image base.old) buffer.old answers.old)) }
+    ensures replays { ReplaysIfNew (S.holds base.old) requests.now shelf.old shelf.new
+        (setting bytes.old (S.image base.old) buffer.old answers.old)
+        (setting bytes.new (S.image base.new) buffer.new answers.new) }
 {
     let count = requests.len().min(answers.len());
     for (i, request) in requests[..count].iter().enumerate() {
@@ -56,31 +68,14 @@ fn play<S: Store>(
     }
 }
 
-// The same on an empty shelf, which is made first.
-fn play_from_empty<S: Store>(
-    name: &[u8],
-    base: &mut S,
-    bytes: &mut [u8],
-    buffer: &mut [u8],
-    requests: &[Request],
-    answers: &mut [Result<usize, Fault>],
-) -> Result<Shelf, Fault>
-    ensures same { S.holds base.new ≡ S.holds base.old }
-    ensures replayed { Replayed (S.holds base.old) name.now bytes.old (S.image base.old) buffer.old requests.now answers.old result bytes.new (S.image base.new) buffer.new answers.new }
-    ensures always { AlwaysComesBack }
-{
-    let mut shelf = Shelf::new(name)?;
-    play(&mut shelf, base, bytes, buffer, requests, answers);
-    Ok(shelf)
-}
-
-// Makes an empty shelf beside a base image at the snapshot `name`, and then a series of calls on it, one
-// for each request, as many as there are places for answers; tells what each call answered (0 for a put
-// or a settle that was done) and gives the shelf. A bad name is refused, and nothing is done.
-//
-// Replayed says what each call did, and of this run all that the shelf promises: the base image comes
-// back, each entry is the canonical join of its stretch, lists show its overlay. Always says it of every
-// store, first image and series.
+/// Makes an empty shelf beside a base image at the snapshot `name`, and then a series of calls on
+/// it: one for each request, as many as there are places for answers. Each answer is written to its
+/// place, 0 for a put or a settle that was done; the shelf is returned. Refused: a bad name, and
+/// then nothing is done.
+///
+/// `Replayed` says what each call did, and of this run all that the shelf promises: the base image
+/// comes back, each entry is the canonical join of its stretch, lists show its overlay. `always`
+/// says it of every store, first image and series.
 pub fn replay<S: Store>(
     name: &[u8],
     base: &mut S,
@@ -90,8 +85,17 @@ pub fn replay<S: Store>(
     answers: &mut [Result<usize, Fault>],
 ) -> Result<Shelf, Fault>
     ensures same { S.holds base.new ≡ S.holds base.old }
-    ensures replayed { Replayed (S.holds base.old) name.now bytes.old (S.image base.old) buffer.old requests.now answers.old result bytes.new (S.image base.new) buffer.new answers.new }
+    ensures replayed { Replayed (S.holds base.old) name.now requests.now result
+        (setting bytes.old (S.image base.old) buffer.old answers.old)
+        (setting bytes.new (S.image base.new) buffer.new answers.new) }
+    // Past the largest image that there is after any of the calls, the store's memory is as it was.
+    ensures past { KeepsPast S.past base.old base.new
+        (largest_replay_size (S.holds base.old) name.now requests.now
+        (setting bytes.old (S.image base.old) buffer.old answers.old)) }
     ensures always { AlwaysComesBack }
 {
-    play_from_empty(name, base, bytes, buffer, requests, answers)
+    laws_of_the_shelf();
+    let mut shelf = Shelf::new(name)?;
+    play(&mut shelf, base, bytes, buffer, requests, answers);
+    Ok(shelf)
 }

@@ -2,7 +2,7 @@ ghost use Rattle.std.specs.Prelude.{◌≡◌, ◌+◌, ◌≤◌, min};
 
 use std::ops::Range;
 
-// A part of a buffer: its first place and its length. What passes the buffer's end is cut off.
+/// A part of a buffer: its first place and its length. What passes the buffer's end is cut off.
 #[derive(Clone, Copy)]
 pub struct Window {
     pub start: usize,
@@ -10,7 +10,7 @@ pub struct Window {
 }
 
 impl Window {
-    // The places of the window in a buffer of so many bytes.
+    // The places of the window in a buffer of `room` bytes.
     pub(crate) fn within(self, room: usize) -> Range<usize>
         ensures start { result.start ≡ min self.start room }
         ensures end { result.end ≡ min (self.start + self.length) room }
@@ -22,8 +22,8 @@ impl Window {
     }
 }
 
-// A call of a series, with its arguments. It is handed the first `handed` of the shelf's bytes, all of
-// them where there are no more; join and list are lent a window of the series' buffer besides.
+/// A call of a series, with its arguments. It gets the first `handed` of the shelf's bytes, all of
+/// them where there are no more; join and list get a window of the series' buffer besides.
 #[derive(Clone, Copy)]
 pub enum Request<'a> {
     Put {

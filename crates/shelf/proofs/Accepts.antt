@@ -1,16 +1,17 @@
--- The records of an accepted stream are sound, and its difference can be expressed. Nothing is asked of the stream, not even that its numbers are bytes.
+-- The records of an accepted stream are sound, and its difference can be expressed. Nothing is
+-- asked of the stream, not even that its numbers are bytes.
 use Rattle.std.proofs.Common.{◌≡◌, ℕ, zero, suc, ◌+◌, ◌-◌, ◌^◌, ◌≤◌, Bool, true, false, cond, eqb, ltb, List, [], length, get_or, take, drop, Ok, Err, Result, sym, refl, ap, ◌∙◌, subst, inl, inr, arith}
-use Rattle.fault.specs.Fault.{then, fault}
+use Rattle.fault.specs.Fault.{and_then, fault}
 use Rattle.fault.specs.declared.kinds.Cause.{Cause}
 use Rattle.fault.specs.declared.kinds.Cause.TheVariants as causes
 use Rattle.fault.specs.declared.kinds.Fault.{Fault}
 use Rattle.std.proofs.lemmas.Bool.{ltb-false, eqb-false, cases_Bool}
 use Rattle.stream.specs.Bytes.{le, field}
 use Rattle.stream.specs.Rule.{State, from_rule, to_rule, size_rule, late_rule}
-use Rattle.stream.specs.Steps.{Pos, every_printable, name_of, size_of, data_range_of, payload_of, from_step, to_step, size_step, data_step, zeros_step, end_step, record_of, step_of, fault_at}
+use Rattle.stream.specs.Steps.{Pos, every_printable, name_length_of, size_of, data_range_of, payload_range_of, from_step, to_step, size_step, data_step, zeros_step, end_step, record_of, step_of, fault_at}
 use Rattle.stream.specs.Records.{Content, from_name, to_name, image_size, data_at, zeros_at, header}
-use Rattle.stream.specs.Verdict.{start, verdict, reads, onward, taken, before, same}
-use Rattle.stream.specs.Wellformed.{GoodName, GoodRange, Good, rule_of, moved, WellFormed}
+use Rattle.stream.specs.Verdict.{start, verdict, reads, reads_after, step_result, record_before, same}
+use Rattle.stream.specs.Wellformed.{GoodName, GoodRange, Good, rule_of, pos_past, WellFormed}
 use Rattle.stream.specs.Difference.{Difference, difference, meaning, Expressible}
 use Rattle.stream.specs.declared.kinds.Record.{Record}
 use Rattle.stream.specs.declared.kinds.Record.TheVariants.{End}
@@ -19,7 +20,7 @@ use Rattle.stream.proofs.Sounds.{never, sound_exactly}
 use Rattle.join.proofs.Accepted.{sound_expressible}
 use Rattle.stream.proofs.Gathers.{field_length}
 
-name_good : (rest : List ℕ) (m : ℕ) → name_of rest ≡ Ok m → (length (field rest 5 m) ≡ m) × GoodName (field rest 5 m)
+name_good : (rest : List ℕ) (m : ℕ) → name_length_of rest ≡ Ok m → (length (field rest 5 m) ≡ m) × GoodName (field rest 5 m)
 name_good rest m h =
     let n = le (field rest 1 4) in
     let a = passes (ltb (length rest) 5) _ _ m h in
@@ -54,7 +55,7 @@ range_good p rest q h =
     let few = ltb-false 511 p.count a.0 in
     subst (λ r. GoodRange p r.0 r.1) (ok_same (o, n) q e.1) (omega arith, omega arith, ltb-false p.size (o + n) d.0, ltb-false o p.end e.0)
 
-data_good : (p : Pos) (rest : List ℕ) (q : ℕ × ℕ) → payload_of p rest ≡ Ok q → (length (field rest 17 q.1) ≡ q.1) × GoodRange p q.0 q.1
+data_good : (p : Pos) (rest : List ℕ) (q : ℕ × ℕ) → payload_range_of p rest ≡ Ok q → (length (field rest 17 q.1) ≡ q.1) × GoodRange p q.0 q.1
 data_good p rest q h =
     let a = then_back (data_range_of p rest) _ q h in
     let b = passes _ _ _ q a.2 in
@@ -64,8 +65,8 @@ data_good p rest q h =
 
 -- what a step that was taken read
 data Read (p : Pos) (rest : List ℕ) (x : Record × Pos) : Type 0 where
-  one : (c : Content) (s : State) → rule_of c p.state ≡ Ok s → Good p c → x.1 ≡ moved p c s
-      → ((follow : Result (List Content) Fault) (total : ℕ) → taken follow total rest x.0 x.1 ≡ before c follow) → Read p rest x
+  one : (c : Content) (s : State) → rule_of c p.state ≡ Ok s → Good p c → x.1 ≡ pos_past p c s
+      → ((follow : Result (List Content) Fault) (total : ℕ) → step_result follow total rest x.0 x.1 ≡ record_before c follow) → Read p rest x
   ended : (s : State) → late_rule p.state ≡ Ok s → x.0 ≡ End → Read p rest x
 
 at_place : (p : Pos) (a n m : ℕ) (s : State) → n ≡ m
@@ -75,13 +76,13 @@ at_place p a n m s e = ap (λ k. record { place = p.place + a + k; state = s; si
 module _ (p : Pos) (rest : List ℕ) (x : Record × Pos) where
   from_read : (s : State) → from_rule p.state ≡ Ok s → from_step p rest s ≡ Ok x → Read p rest x
   from_read s u h =
-      let a = then_back (name_of rest) _ x h in
+      let a = then_back (name_length_of rest) _ x h in
       let g = name_good rest a.0 a.1 in
       subst (Read p rest) (ok_same _ x a.2) (one (from_name (field rest 5 a.0)) s u g.1 (at_place p 5 a.0 (length (field rest 5 a.0)) s (sym g.0)) (λ _ _. refl))
 
   to_read : (s : State) → to_rule p.state ≡ Ok s → to_step p rest s ≡ Ok x → Read p rest x
   to_read s u h =
-      let a = then_back (name_of rest) _ x h in
+      let a = then_back (name_length_of rest) _ x h in
       let g = name_good rest a.0 a.1 in
       subst (Read p rest) (ok_same _ x a.2) (one (to_name (field rest 5 a.0)) s u g.1 (at_place p 5 a.0 (length (field rest 5 a.0)) s (sym g.0)) (λ _ _. refl))
 
@@ -92,10 +93,10 @@ module _ (p : Pos) (rest : List ℕ) (x : Record × Pos) where
 
   data_read : (s : State) → late_rule p.state ≡ Ok s → data_step p rest s ≡ Ok x → Read p rest x
   data_read s u h =
-      let a = then_back (payload_of p rest) _ x h in
+      let a = then_back (payload_range_of p rest) _ x h in
       let q = a.0 in
       let g = data_good p rest q a.1 in
-      let there : ◌≡◌ {A = Pos} (record { place = p.place + 17 + q.1; state = s; size = p.size; end = q.0 + q.1; count = p.count + 1 }) (moved p (data_at q.0 (field rest 17 q.1)) s) =
+      let there : ◌≡◌ {A = Pos} (record { place = p.place + 17 + q.1; state = s; size = p.size; end = q.0 + q.1; count = p.count + 1 }) (pos_past p (data_at q.0 (field rest 17 q.1)) s) =
       ap (λ n. record { place = p.place + 17 + n; state = s; size = p.size; end = q.0 + n; count = p.count + 1 }) (sym g.0) in
       subst (Read p rest) (ok_same _ x a.2) (one (data_at q.0 (field rest 17 q.1)) s u (subst (GoodRange p q.0) (sym g.0) g.1) there (λ _ _. refl))
 
@@ -108,7 +109,7 @@ module _ (p : Pos) (rest : List ℕ) (x : Record × Pos) where
   end_read s u h = ended s u (ap (λ y. y.0) (sym (ok_same _ x h)))
 
   -- a tag's rule, and then its step
-  by_rule : (r : Result State Cause) (g : State → Result (Record × Pos) Cause) → ((s : State) → r ≡ Ok s → g s ≡ Ok x → Read p rest x) → then r g ≡ Ok x → Read p rest x
+  by_rule : (r : Result State Cause) (g : State → Result (Record × Pos) Cause) → ((s : State) → r ≡ Ok s → g s ≡ Ok x → Read p rest x) → and_then r g ≡ Ok x → Read p rest x
   by_rule r g f h = let a = then_back r g x h in f a.0 a.1 a.2
 
   -- the step of a tag, or what follows
@@ -132,8 +133,8 @@ module _ (p : Pos) (rest : List ℕ) (x : Record × Pos) where
         | inr e ↦ never x causes.Cut (at_false _ _ _ (Ok x) e h)
       ]
 
-step_was : (k total : ℕ) (p : Pos) (rest : List ℕ) (cs : List Content) (o : Result (Record × Pos) Cause) → onward (reads k total) total p.place rest o ≡ Ok cs
-    → (x : Record × Pos) × (o ≡ Ok x) × (taken (reads k total x.1 (drop (x.1.place - p.place) rest)) total rest x.0 x.1 ≡ Ok cs)
+step_was : (k total : ℕ) (p : Pos) (rest : List ℕ) (cs : List Content) (o : Result (Record × Pos) Cause) → reads_after (reads k total) total p.place rest o ≡ Ok cs
+    → (x : Record × Pos) × (o ≡ Ok x) × (step_result (reads k total x.1 (drop (x.1.place - p.place) rest)) total rest x.0 x.1 ≡ Ok cs)
 step_was k total p rest cs (Ok x) h = (x, refl, h)
 step_was k total p rest cs (Err c) h = never cs (fault_at total p.place c) h
 
@@ -149,7 +150,7 @@ list_formed (suc k) total p rest cs h =
           let more = list_formed k total x.1 (drop (x.1.place - p.place) rest) b.0 b.1 in
           subst (WellFormed p) b.2 (s, u, g, subst (λ q. WellFormed q b.0) e more)
       | ended s u e ↦
-          let a = passes (ltb x.1.place total) _ _ cs (sym (ap (λ y. taken follow total rest y x.1) e) ∙ w.2) in
+          let a = passes (ltb x.1.place total) _ _ cs (sym (ap (λ y. step_result follow total rest y x.1) e) ∙ w.2) in
           subst (WellFormed p) (ok_same [] cs a.1) (late_data p.state s u)
     ]
 

@@ -1,15 +1,15 @@
 -- What holds of shelf, bytes, image and ledger between two calls, and that each call keeps it.
 use Rattle.std.proofs.Common.{◌≡◌, ℕ, ◌+◌, ◌≤◌, List, [], ◌∷◌, ◌++◌, map, length, take, drop, Ok, sym, ap, ◌∙◌, subst, ap₂, arith}
 use Rattle.std.specs.List.{flat_map as strung, AllByRecursion}
-use Rattle.std.proofs.lemmas.List.{append_assoc, append-nil, map-append, length-map, length_push, flat_map_more, take-append-drop}
+use Rattle.std.proofs.lemmas.List.{append_assoc, append-nil, map-append, length-map, length_push, flat_map_more}
 use Rattle.std.proofs.ByRecursion.{All-append, All-push}
 use Rattle.stream.specs.Meaning.{ranges}
-use Rattle.stream.specs.Difference.{Difference, joined, applied, canonical, Expressible}
+use Rattle.stream.specs.Difference.{Difference, join_difference, image_after, canonical_bytes, Expressible}
 use Rattle.join.proofs.InTurn.{join_expressible}
 use Rattle.table.specs.Tables.{Table, end_of, row_at, add_row, unite_rows}
-use Rattle.shelf.specs.Entries.{replaced}
-use Rattle.shelf.specs.Ledger.{Stretch, streams_of, lone, both, united}
-use Rattle.shelf.specs.Stretches.{meant, difference_in, differences_in, applied_all, stretch_join}
+use Rattle.shelf.specs.Entries.{bytes_with}
+use Rattle.shelf.specs.Ledger.{Stretch, streams_of, lone, both, neighbours_as_one}
+use Rattle.shelf.specs.Stretches.{difference_or_empty, difference_in, differences_in, applied_all, stretch_join}
 use Rattle.stream.proofs.Back.{ok_same}
 use Rattle.shelf.proofs.Pieces.{AroundTwo, around_two}
 use Rattle.shelf.proofs.Accepts.{expressible}
@@ -29,23 +29,19 @@ pub record Kept (first : List ℕ) (settled : List (List ℕ)) (ss : List Stretc
   pub back : applied_all (map stretch_join ss) image ≡ applied_all (differences_in acc) first
 
 module _ (first : List ℕ) (settled : List (List ℕ)) (ss : List Stretch) (acc : List (List ℕ)) (t : Table) (bytes image : List ℕ) (h : Kept first settled ss acc t bytes image) where
-  -- a call that altered nothing
-  pub same_kept : (k : ℕ) → Kept first settled ss (acc ++ []) t (take k bytes ++ drop k bytes) image
-  same_kept k = rw (append-nil acc, take-append-drop k bytes) h
-
   module _ (k : ℕ) (stream : List ℕ) (d : Difference) (p : PutPlanned t (take k bytes) stream d) where
     is_meant : difference_in stream ≡ d
-    is_meant = ap meant p.means
+    is_meant = ap difference_or_empty p.means
 
-    put_stands : Stands (map stretch_join (ss ++ (lone stream ∷ []))) (add_row t (long d) d.from d.to) (replaced t.fill (take k bytes) t.fill t.fill (canonical d) ++ drop k bytes)
+    put_stands : Stands (map stretch_join (ss ++ (lone stream ∷ []))) (add_row t (long d) d.from d.to) (bytes_with t.fill (take k bytes) t.fill t.fill (canonical_bytes d) ++ drop k bytes)
     put_stands =
         let whole : map stretch_join ss ++ (d ∷ []) ≡ map stretch_join (ss ++ (lone stream ∷ [])) =
         ap (λ x. map stretch_join ss ++ (x ∷ [])) (sym is_meant) ∙ sym (map-append stretch_join ss (lone stream ∷ [])) in
         let handed = stands_handed (map stretch_join ss) t bytes h.stands k p.reaches in
-        subst (λ ds. Stands ds (add_row t (long d) d.from d.to) (replaced t.fill (take k bytes) t.fill t.fill (canonical d) ++ drop k bytes)) whole
+        subst (λ ds. Stands ds (add_row t (long d) d.from d.to) (bytes_with t.fill (take k bytes) t.fill t.fill (canonical_bytes d) ++ drop k bytes)) whole
         (stands_beyond _ _ _ (stands_put (map stretch_join ss) d t (take k bytes) handed) (drop k bytes))
 
-    pub put_kept : Kept first settled (ss ++ (lone stream ∷ [])) (acc ++ (stream ∷ [])) (add_row t (long d) d.from d.to) (replaced t.fill (take k bytes) t.fill t.fill (canonical d) ++ drop k bytes) image
+    pub put_kept : Kept first settled (ss ++ (lone stream ∷ [])) (acc ++ (stream ∷ [])) (add_row t (long d) d.from d.to) (bytes_with t.fill (take k bytes) t.fill t.fill (canonical_bytes d) ++ drop k bytes) image
     put_kept =
         let here : Meant stream = p.means ∙ ap Ok (sym is_meant) in
         let new : GoodStretch (lone stream) = record { streams = (here, tt); join = subst Expressible (sym is_meant) (expressible stream d p.means) } in
@@ -55,7 +51,7 @@ module _ (first : List ℕ) (settled : List (List ℕ)) (ss : List Stretch) (acc
           streams = All-push Meant acc stream h.streams here;
           cut = sym (flat_map_more streams_of settled ss (lone stream)) ∙ ap (λ x. x ++ (stream ∷ [])) h.cut;
           back = ap (λ ds. applied_all ds image) (map-append stretch_join ss (lone stream ∷ [])) ∙ applied_push (map stretch_join ss) (difference_in stream) image
-              ∙ ap (applied (difference_in stream).cells) h.back ∙ sym (applied_push (differences_in acc) (difference_in stream) first)
+              ∙ ap (image_after (difference_in stream).cells) h.back ∙ sym (applied_push (differences_in acc) (difference_in stream) first)
               ∙ ap (λ ds. applied_all ds first) (sym (map-append difference_in acc (stream ∷ [])));
         }
 
@@ -91,21 +87,21 @@ module _ (first : List ℕ) (settled : List (List ℕ)) (ss : List Stretch) (acc
         let longer : length (before ++ (stretch_join two.here ∷ [])) ≡ i + 1 = omega (arith, length_push before (stretch_join two.here), count) in
         ok_same _ _ (sym p.next ∙ entry_reads (map stretch_join ss) t (take k bytes) handed (before ++ (stretch_join two.here ∷ [])) (stretch_join two.next) behind (i + 1) (two_joins ∙ one_more) longer two_good.1.1.0.join)
 
-    is_join : j ≡ joined (stretch_join two.here) (stretch_join two.next)
-    is_join = p.is ∙ ap₂ joined is_earlier is_later
+    is_join : j ≡ join_difference (stretch_join two.here) (stretch_join two.next)
+    is_join = p.is ∙ ap₂ join_difference is_earlier is_later
 
-    united_whole : united both i ss ≡ two.before ++ (both two.here two.next ∷ two.behind)
-    united_whole = ap₂ (united both) (sym two.count) two.whole ∙ united_is both two.before two.here two.next two.behind
+    united_whole : neighbours_as_one both i ss ≡ two.before ++ (both two.here two.next ∷ two.behind)
+    united_whole = ap₂ (neighbours_as_one both) (sym two.count) two.whole ∙ united_is both two.before two.here two.next two.behind
 
-    united_joins : before ++ (j ∷ behind) ≡ map stretch_join (united both i ss)
+    united_joins : before ++ (j ∷ behind) ≡ map stretch_join (neighbours_as_one both i ss)
     united_joins =
         ap (λ x. before ++ (x ∷ behind)) (is_join ∙ join_both two.here two.next)
         ∙ sym (map-append stretch_join two.before (both two.here two.next ∷ two.behind)) ∙ ap (map stretch_join) (sym united_whole)
 
-    join_stands : Stands (map stretch_join (united both i ss)) (unite_rows t i (long j)) (replaced t.fill (take k bytes) (row_at t i).place (end_of (row_at t (i + 1))) (canonical j) ++ drop k bytes)
+    join_stands : Stands (map stretch_join (neighbours_as_one both i ss)) (unite_rows t i (long j)) (bytes_with t.fill (take k bytes) (row_at t i).place (end_of (row_at t (i + 1))) (canonical_bytes j) ++ drop k bytes)
     join_stands =
         let now = subst (λ ds. Stands ds t (take k bytes)) two_joins handed in
-        subst (λ ds. Stands ds (unite_rows t i (long j)) (replaced t.fill (take k bytes) (row_at t i).place (end_of (row_at t (i + 1))) (canonical j) ++ drop k bytes)) united_joins
+        subst (λ ds. Stands ds (unite_rows t i (long j)) (bytes_with t.fill (take k bytes) (row_at t i).place (end_of (row_at t (i + 1))) (canonical_bytes j) ++ drop k bytes)) united_joins
         (stands_beyond _ _ _ (stands_join before (stretch_join two.here) (stretch_join two.next) behind t (take k bytes) now i count j (ap (λ x. x.from) is_join) (ap (λ x. x.to) is_join)) (drop k bytes))
 
     good_both : GoodStretch (both two.here two.next)
@@ -114,7 +110,7 @@ module _ (first : List ℕ) (settled : List (List ℕ)) (ss : List Stretch) (acc
       join = subst Expressible (join_both two.here two.next) (join_expressible _ _ two_good.1.0.join two_good.1.1.0.join (subst (λ x. length (ranges x.cells) ≤ 512) is_join p.few));
     }
 
-    pub join_kept : Kept first settled (united both i ss) (acc ++ []) (unite_rows t i (long j)) (replaced t.fill (take k bytes) (row_at t i).place (end_of (row_at t (i + 1))) (canonical j) ++ drop k bytes) image
+    pub join_kept : Kept first settled (neighbours_as_one both i ss) (acc ++ []) (unite_rows t i (long j)) (bytes_with t.fill (take k bytes) (row_at t i).place (end_of (row_at t (i + 1))) (canonical_bytes j) ++ drop k bytes) image
     join_kept = rw (append-nil acc) (record {
       stands = join_stands;
       good = subst (AllByRecursion GoodStretch) (sym united_whole) (All-append GoodStretch two.before (both two.here two.next ∷ two.behind) two_good.0 (good_both, two_good.1.1.1));

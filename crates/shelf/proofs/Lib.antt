@@ -1,7 +1,7 @@
 pub mod Plans
 pub mod Spliced
 mod Done
-mod Sourced
+mod Owned
 pub mod Pieces
 pub mod Algebra
 pub mod Tabled

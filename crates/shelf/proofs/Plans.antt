@@ -1,18 +1,19 @@
--- What the checks of a call that was not refused tell, and that what stands on a shelf reads as itself.
-use Rattle.std.proofs.Common.{◌≡◌, ℕ, ◌+◌, ◌<◌, ◌≤◌, false, not, ltb, leb, List, length, Ok, Err, Result, sym, ap, ◌∙◌, subst, arith}
-use Rattle.fault.specs.Fault.{fault_by, in_entry, then}
+-- What the checks of a call that was not refused say.
+use Rattle.std.proofs.Common.{◌≡◌, ℕ, ◌+◌, ◌<◌, ◌≤◌, not, ltb, leb, List, length, Ok, Err, Result, sym, ap, ◌∙◌, subst, arith}
+use Rattle.fault.specs.Fault.{fault_by, in_entry, and_then}
 use Rattle.fault.specs.declared.kinds.Fault.{Fault}
 use Rattle.std.proofs.lemmas.Bool.{ltb-false, leb-false}
 use Rattle.listing.specs.Text.{listing}
-use Rattle.stream.specs.Buffers.{filled, filled_by}
+use Rattle.fault.specs.declared.kinds.Layer.TheVariants.{Stream}
+use Rattle.stream.specs.Buffers.{written_answer}
 use Rattle.stream.specs.Verdict.{same}
 use Rattle.stream.specs.Meaning.{ranges}
-use Rattle.stream.specs.Difference.{Difference, meaning, joined, canonical}
+use Rattle.stream.specs.Difference.{Difference, meaning, join_difference, canonical_bytes}
 use Rattle.stream.proofs.Back.{passes, then_back, ok_same}
 use Rattle.stream.proofs.Sounds.{never}
 use Rattle.table.specs.Tables.{Table, next_name, is_taken}
 use Rattle.shelf.specs.Entries.{are_there, entry}
-use Rattle.shelf.specs.Outcomes.{put_fits, put_plan, finds_room, join_fits, join_plan, settle_plan, list_text, list_answer, list_buffer}
+use Rattle.shelf.specs.Outcomes.{put_fits, put_plan, finds_room, join_fits, join_plan, settle_plan, list_plan}
 use Rattle.shelf.specs.Steps.{HasRoom}
 
 pub fault_by_back : {A : Type 0} (g : Fault → Fault) (r : Result A Fault) (x : A) → fault_by g r ≡ Ok x → r ≡ Ok x
@@ -32,7 +33,7 @@ put_fitted t bytes e d h =
     let c = passes (is_taken e.to t) _ _ d b.1 in
     let f = passes _ _ _ d c.1 in
     let few = leb-false 64 (length t.rows) b.0 in
-    (record { few = few; room = ltb-false (length bytes) (t.fill + length (canonical e)) f.0 }, ok_same e d f.1)
+    (record { few = few; room = ltb-false (length bytes) (t.fill + length (canonical_bytes e)) f.0 }, ok_same e d f.1)
 
 pub put_planned : (t : Table) (bytes stream : List ℕ) (d : Difference) → put_plan t bytes stream ≡ Ok d → PutPlanned t bytes stream d
 unfolding put_plan
@@ -47,7 +48,7 @@ put_planned t bytes stream d h =
     }
 
 -- what a call that found its entries there knows, and that what followed succeeded
-pub found_there : {A : Type 0} (t : Table) (bytes : List ℕ) (i more : ℕ) (next : Result A Fault) (x : A) → then (are_there t bytes i more) (λ _. next) ≡ Ok x
+pub found_there : {A : Type 0} (t : Table) (bytes : List ℕ) (i more : ℕ) (next : Result A Fault) (x : A) → and_then (are_there t bytes i more) (λ _. next) ≡ Ok x
     → (i + more < length t.rows) × (t.fill ≤ length bytes) × (next ≡ Ok x)
 found_there t bytes i more next x h =
     let a = then_back (are_there t bytes i more) _ x h in
@@ -58,7 +59,7 @@ found_there t bytes i more next x h =
 join_fitted : (t : Table) (bytes : List ℕ) (i : ℕ) (work : List ℕ) (d j : Difference) → join_fits t bytes i work d ≡ Ok j → (length (ranges d.cells) ≤ 512) × (j ≡ d)
 join_fitted t bytes i work d j h =
     let a = passes _ _ _ j h in
-    let b = then_back (finds_room t bytes i work (length (canonical d))) _ j a.1 in
+    let b = then_back (finds_room t bytes i work (length (canonical_bytes d))) _ j a.1 in
     (ltb-false 512 (length (ranges d.cells)) a.0, sym (ok_same d j b.2))
 
 -- entries that join accepts
@@ -69,7 +70,7 @@ pub record JoinPlanned (t : Table) (bytes : List ℕ) (i : ℕ) (j : Difference)
   pub later : Difference
   pub here : entry t bytes i ≡ Ok earlier
   pub next : entry t bytes (i + 1) ≡ Ok later
-  pub is : j ≡ joined earlier later
+  pub is : j ≡ join_difference earlier later
   pub few : length (ranges j.cells) ≤ 512
 
 pub join_planned : (t : Table) (bytes : List ℕ) (i : ℕ) (work : List ℕ) (j : Difference) → join_plan t bytes i work ≡ Ok j → JoinPlanned t bytes i j
@@ -78,7 +79,7 @@ join_planned t bytes i work j h =
     let a = found_there t bytes i 1 _ j h in
     let c = then_back (entry t bytes i) _ j a.2 in
     let d = then_back (entry t bytes (i + 1)) _ j c.2 in
-    let e = join_fitted t bytes i work (joined c.0 d.0) j (fault_by_back (in_entry i) _ j d.2) in
+    let e = join_fitted t bytes i work (join_difference c.0 d.0) j (fault_by_back (in_entry i) _ j d.2) in
     record {
       there = a.0;
       reaches = a.1;
@@ -103,30 +104,18 @@ settle_planned t bytes d h =
     record { there = a.0; reaches = a.1; here = a.2 }
 
 -- an entry that list shows
-pub record ListPlanned (t : Table) (bytes : List ℕ) (i : ℕ) (text : List ℕ) (n : ℕ) : Type 0 where
+pub record ListPlanned (t : Table) (bytes : List ℕ) (i : ℕ) (written : List ℕ) : Type 0 where
   pub there : i < length t.rows
   pub reaches : t.fill ≤ length bytes
   pub shown : Difference
   pub here : entry t bytes i ≡ Ok shown
-  pub told : n ≡ length (listing (ranges shown.cells))
-  pub wrote : list_buffer t bytes i text ≡ filled text (listing (ranges shown.cells))
-  pub room : ltb (length text) (length (listing (ranges shown.cells))) ≡ false
+  pub is : written ≡ listing (ranges shown.cells)
 
-pub list_planned : (t : Table) (bytes : List ℕ) (i : ℕ) (text : List ℕ) (n : ℕ) → list_answer t bytes i text ≡ Ok n → ListPlanned t bytes i text n
-unfolding list_text
-list_planned t bytes i text n h =
-    let a = then_back (list_text t bytes i) _ n h in
-    let x = a.0 in
-    let b = found_there t bytes i 0 _ x a.1 in
-    let d = then_back (entry t bytes i) _ x b.2 in
-    let is : listing (ranges d.0.cells) ≡ x = ok_same _ x d.2 in
-    let f = passes _ _ _ n (fault_by_back _ _ n a.2) in
-    record {
-      there = omega arith;
-      reaches = b.1;
-      shown = d.0;
-      here = d.1;
-      told = sym (ok_same _ n f.1) ∙ ap length (sym is);
-      wrote = ap (λ r. filled_by r text) a.1 ∙ ap (filled text) (sym is);
-      room = rw is f.0;
-    }
+pub list_planned : (t : Table) (bytes : List ℕ) (i : ℕ) (text written : List ℕ) → list_plan t bytes i text ≡ Ok written → ListPlanned t bytes i written
+unfolding list_plan
+list_planned t bytes i text written h =
+    let b = found_there t bytes i 0 _ written h in
+    let d = then_back (entry t bytes i) _ written b.2 in
+    let x = listing (ranges d.0.cells) in
+    let e = then_back (written_answer Stream text x) (λ _. Ok x) written (fault_by_back (in_entry i) _ written d.2) in
+    record { there = omega arith; reaches = b.1; shown = d.0; here = d.1; is = sym (ok_same _ written e.2) }

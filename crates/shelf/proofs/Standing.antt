@@ -1,9 +1,10 @@
--- Differences that stand on a shelf: the table and the bytes are those of their canonical streams, end to end; and what put, join and settle make of them.
+-- Differences that stand on a shelf: the table and the bytes are those of their canonical streams,
+-- end to end; and what put, join and settle make of them.
 use Rattle.std.proofs.Common.{◌≡◌, ℕ, suc, ◌+◌, ◌-◌, ◌≤◌, List, [], ◌∷◌, ◌++◌, map, length, get_or, take, sym, refl, ap, ◌∙◌, ap₂, arith}
 use Rattle.std.proofs.lemmas.List.{append_assoc, length-append, length-take, take_at, drop_at, get_or_at}
 use Rattle.std.specs.List.{flat_map as strung}
-use Rattle.stream.specs.Difference.{Difference, canonical}
-use Rattle.table.specs.Tables.{Row, Table, no_row, row_at, moved}
+use Rattle.stream.specs.Difference.{Difference, canonical_bytes}
+use Rattle.table.specs.Tables.{Row, Table, no_row, row_at, moved_row}
 use Rattle.shelf.specs.Entries.{slice, shelf_streams}
 use Rattle.overlay.proofs.Overlaid.{cons}
 use Rattle.std.proofs.Math.Seq.{take-append-add}
@@ -11,11 +12,11 @@ use Rattle.std.proofs.lemmas.Grind.{flat_map-append}
 
 -- how long a difference's stream is
 abbrev pub long : Difference → ℕ
-long d = length (canonical d)
+long d = length (canonical_bytes d)
 
 -- the bytes, the rows and the table of differences
 abbrev pub all_bytes : List Difference → List ℕ
-all_bytes ds = strung canonical ds
+all_bytes ds = strung canonical_bytes ds
 
 abbrev pub row_for : ℕ → Difference → Row
 row_for place d = record { place = place; length = long d; from = d.from; to = d.to }
@@ -41,13 +42,13 @@ length_rows place (d ∷ ds) = ap suc (length_rows (place + long d) ds)
 rows_append : (place : ℕ) (ds es : List Difference) → rows_for place (ds ++ es) ≡ rows_for place ds ++ rows_for (place + length (all_bytes ds)) es
 rows_append place [] es = let z : place ≡ place + 0 = omega arith in ap (λ p. rows_for p es) z
 rows_append place (d ∷ ds) es =
-    let z : place + long d + length (all_bytes ds) ≡ place + length (canonical d ++ all_bytes ds) = omega (arith, length-append (canonical d) (all_bytes ds)) in
+    let z : place + long d + length (all_bytes ds) ≡ place + length (canonical_bytes d ++ all_bytes ds) = omega (arith, length-append (canonical_bytes d) (all_bytes ds)) in
     cons refl (rows_append (place + long d) ds es ∙ ap (λ p. rows_for (place + long d) ds ++ rows_for p es) z)
 
 pub rows_split : (ds es : List Difference) → rows_for 0 (ds ++ es) ≡ rows_for 0 ds ++ rows_for (length (all_bytes ds)) es
 rows_split ds es = let z : 0 + length (all_bytes ds) ≡ length (all_bytes ds) = omega arith in rows_append 0 ds es ∙ ap (λ p. rows_for 0 ds ++ rows_for p es) z
 
-pub rows_moved : (old new a b : ℕ) (ds : List Difference) → old ≤ a → b ≡ new + (a - old) → map (moved old new) (rows_for a ds) ≡ rows_for b ds
+pub rows_moved : (old new a b : ℕ) (ds : List Difference) → old ≤ a → b ≡ new + (a - old) → map (moved_row old new) (rows_for a ds) ≡ rows_for b ds
 rows_moved old new a b [] l e = refl
 rows_moved old new a b (d ∷ ds) l e =
     cons (ap (λ p. record { place = p; length = long d; from = d.from; to = d.to }) (sym e))
@@ -59,17 +60,17 @@ slice_is : (pre c more : List ℕ) (place n : ℕ) (from to : List ℕ) → leng
 slice_is pre c more place n from to e f = ap (take n) (drop_at pre (c ++ more) place e) ∙ take_at c more n f
 
 slices : (pre tail : List ℕ) (place : ℕ) (ds : List Difference) → length pre ≡ place
-    → map (slice (pre ++ (all_bytes ds ++ tail))) (rows_for place ds) ≡ map canonical ds
+    → map (slice (pre ++ (all_bytes ds ++ tail))) (rows_for place ds) ≡ map canonical_bytes ds
 slices pre tail place [] e = refl
 slices pre tail place (d ∷ ds) e =
-    let c = canonical d in
+    let c = canonical_bytes d in
     let one : pre ++ ((c ++ all_bytes ds) ++ tail) ≡ pre ++ (c ++ (all_bytes ds ++ tail)) = ap (λ x. pre ++ x) (append_assoc c (all_bytes ds) tail) in
     let two : pre ++ ((c ++ all_bytes ds) ++ tail) ≡ (pre ++ c) ++ (all_bytes ds ++ tail) = one ∙ sym (append_assoc pre c (all_bytes ds ++ tail)) in
     cons (ap (λ x. slice x (row_for place d)) one ∙ slice_is pre c (all_bytes ds ++ tail) place (long d) d.from d.to e refl)
     (ap (λ x. map (slice x) (rows_for (place + long d) ds)) two ∙ slices (pre ++ c) tail (place + long d) ds (length-append pre c ∙ ap (λ n. n + long d) e))
 
 module _ (ds : List Difference) (t : Table) (bytes : List ℕ) (h : Stands ds t bytes) where
-  pub stands_streams : shelf_streams t bytes ≡ map canonical ds
+  pub stands_streams : shelf_streams t bytes ≡ map canonical_bytes ds
   stands_streams = ap₂ shelf_streams h.table h.is ∙ slices [] h.tail 0 ds refl
 
   pub stands_count : length t.rows ≡ length ds
@@ -104,11 +105,11 @@ module _ (ds : List Difference) (t : Table) (bytes : List ℕ) (h : Stands ds t 
       ap (λ x. row_at x i) h.table ∙ ap (λ x. get_or (rows_for 0 x) i no_row) e ∙ ap (λ x. get_or x i no_row) (rows_split pre (d ∷ bs))
       ∙ get_or_at (rows_for 0 pre) (row_for (length (all_bytes pre)) d) (rows_for (length (all_bytes pre) + long d) bs) no_row i (length_rows 0 pre ∙ n)
 
-  pub stands_slice : (pre : List Difference) (d : Difference) (bs : List Difference) → ds ≡ pre ++ (d ∷ bs) → slice bytes (row_for (length (all_bytes pre)) d) ≡ canonical d
+  pub stands_slice : (pre : List Difference) (d : Difference) (bs : List Difference) → ds ≡ pre ++ (d ∷ bs) → slice bytes (row_for (length (all_bytes pre)) d) ≡ canonical_bytes d
   stands_slice pre d bs e =
       let a = all_bytes pre in
-      let c = canonical d in
+      let c = canonical_bytes d in
       let parts : bytes ≡ a ++ (c ++ (all_bytes bs ++ h.tail)) =
-      h.is ∙ ap (λ x. all_bytes x ++ h.tail) e ∙ ap (λ x. x ++ h.tail) (flat_map-append canonical pre (d ∷ bs))
+      h.is ∙ ap (λ x. all_bytes x ++ h.tail) e ∙ ap (λ x. x ++ h.tail) (flat_map-append canonical_bytes pre (d ∷ bs))
       ∙ append_assoc a (c ++ all_bytes bs) h.tail ∙ ap (λ x. a ++ x) (append_assoc c (all_bytes bs) h.tail) in
       ap (λ x. slice x (row_for (length a) d)) parts ∙ slice_is a c (all_bytes bs ++ h.tail) (length a) (long d) d.from d.to refl refl

@@ -4,15 +4,15 @@ use Rattle.std.specs.List.{flat_map as strung, AllByRecursion}
 use Rattle.std.proofs.lemmas.List.{append_assoc}
 use Rattle.std.proofs.ByRecursion.{All-weaker, All-map}
 use Rattle.stream.specs.Meaning.{ranges}
-use Rattle.stream.specs.Difference.{meaning, applied, Expressible}
+use Rattle.stream.specs.Difference.{meaning, image_after, Expressible}
 use Rattle.join.proofs.Applying.{applied_in_turn}
-use Rattle.shelf.specs.Ledger.{Stretch, streams_of, both, united}
+use Rattle.shelf.specs.Ledger.{Stretch, streams_of, both, neighbours_as_one}
 use Rattle.shelf.specs.Stretches.{difference_in, differences_in, applied_all, stretch_join, stretch_overlay}
 use Rattle.shelf.proofs.Accepts.{expressible}
 use Rattle.shelf.proofs.Algebra.{join_both, Small, overlay_is}
 
 -- items i and i + 1 made one, around them
-pub united_is : {X : Type 0} (f : X → X → X) (pre : List X) (x y : X) (bs : List X) → united f (length pre) (pre ++ (x ∷ y ∷ bs)) ≡ pre ++ (f x y ∷ bs)
+pub united_is : {X : Type 0} (f : X → X → X) (pre : List X) (x y : X) (bs : List X) → neighbours_as_one f (length pre) (pre ++ (x ∷ y ∷ bs)) ≡ pre ++ (f x y ∷ bs)
 united_is f [] x y bs = refl
 united_is f (p ∷ []) x y bs = refl
 united_is f (p ∷ q ∷ qs) x y bs = ap (λ zs. p ∷ zs) (united_is f (q ∷ qs) x y bs)
@@ -22,16 +22,16 @@ all_split P [] ys h = (tt, h)
 all_split P (x ∷ xs) ys h = let k = all_split P xs ys h.1 in ((h.0, k.0), k.1)
 
 -- they come to the same on an image, and have the same streams in order
-pub applied_united : (i : ℕ) (ss : List Stretch) (image : List ℕ) → applied_all (map stretch_join (united both i ss)) image ≡ applied_all (map stretch_join ss) image
+pub applied_united : (i : ℕ) (ss : List Stretch) (image : List ℕ) → applied_all (map stretch_join (neighbours_as_one both i ss)) image ≡ applied_all (map stretch_join ss) image
 applied_united zero [] image = refl
 applied_united (suc i) [] image = refl
 applied_united zero (s ∷ []) image = refl
 applied_united (suc i) (s ∷ []) image = refl
 applied_united zero (s ∷ t ∷ ss) image =
-    ap (applied_all (map stretch_join ss)) (ap (λ d. applied d.cells image) (sym (join_both s t)) ∙ applied_in_turn (stretch_join s).cells (stretch_join t).cells image)
-applied_united (suc i) (s ∷ t ∷ ss) image = applied_united i (t ∷ ss) (applied (stretch_join s).cells image)
+    ap (applied_all (map stretch_join ss)) (ap (λ d. image_after d.cells image) (sym (join_both s t)) ∙ applied_in_turn (stretch_join s).cells (stretch_join t).cells image)
+applied_united (suc i) (s ∷ t ∷ ss) image = applied_united i (t ∷ ss) (image_after (stretch_join s).cells image)
 
-pub streams_united : (i : ℕ) (ss : List Stretch) → strung streams_of (united both i ss) ≡ strung streams_of ss
+pub streams_united : (i : ℕ) (ss : List Stretch) → strung streams_of (neighbours_as_one both i ss) ≡ strung streams_of ss
 streams_united zero [] = refl
 streams_united (suc i) [] = refl
 streams_united zero (s ∷ []) = refl

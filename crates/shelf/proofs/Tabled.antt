@@ -1,7 +1,7 @@
 -- The laws of the operations on a table.
 use Rattle.std.proofs.Common.{◌≡◌, ℕ, zero, suc, ◌+◌, ◌-◌, ◌<◌, ◌≤◌, List, [], ◌∷◌, ◌++◌, map, length, get_or, take, drop, sym, refl, ap, ◌∙◌, subst, add-one, arith}
 use Rattle.std.proofs.lemmas.List.{length-append, length-map, length-take, length-drop, get_or_at, get_or_append_left, get_or-append_right, get_or-take, get_or-drop, get_or-map}
-use Rattle.table.specs.Tables.{Row, Table, end_of, no_row, row_at, last_name, fill_after, moved, one_row, unite_rows, drop_row, EndToEnd, LaidOut, Chained, LeadsOn}
+use Rattle.table.specs.Tables.{Row, Table, end_of, no_row, row_at, last_name, fill_after, moved_row, one_row, unite_rows, drop_row, EndToEnd, LaidOut, Chained, LeadsOn}
 use Rattle.shelf.specs.TableLaws.{LawsOfTables}
 use Rattle.table.proofs.Ends.{ends_le, ends_append, ends_moved, ends_inside, ends_next}
 use Rattle.shelf.proofs.Pieces.{AroundTwo, around_two, take_before, getD_here, getD_next, drop_behind}
@@ -20,7 +20,7 @@ chained_split : (name : List ℕ) (rs ss : List Row) → Chained name (rs ++ ss)
 chained_split name [] ss h = (tt, h)
 chained_split name (r ∷ rs) ss h = let k = chained_split r.to rs ss h.1 in ((h.0, k.0), k.1)
 
-chained_moved : (old new : ℕ) (name : List ℕ) (rs : List Row) → Chained name rs → Chained name (map (moved old new) rs)
+chained_moved : (old new : ℕ) (name : List ℕ) (rs : List Row) → Chained name rs → Chained name (map (moved_row old new) rs)
 chained_moved old new name [] h = tt
 chained_moved old new name (r ∷ rs) h = (h.0, chained_moved old new r.to rs h.1)
 
@@ -35,7 +35,7 @@ module _ (base : List ℕ) (fill : ℕ) (pre : List Row) (r s : Row) (bs : List 
   abbrev pub parted : Table
   parted = record { base = base; rows = pre ++ (r ∷ s ∷ bs); fill = fill }
 
-  pub united_as : unite_rows parted i n ≡ record { base = base; rows = pre ++ (one_row n r s ∷ map (moved (end_of s) (r.place + n)) bs); fill = fill_after fill r.place (end_of s) n }
+  pub united_as : unite_rows parted i n ≡ record { base = base; rows = pre ++ (one_row n r s ∷ map (moved_row (end_of s) (r.place + n)) bs); fill = fill_after fill r.place (end_of s) n }
   united_as = rw (take_before pre r s bs no_row i e, getD_here pre r s bs no_row i e, getD_next pre r s bs no_row i e, drop_behind pre r s bs no_row i e) refl
 
   united_laid : LaidOut parted → LaidOut (unite_rows parted i n)
@@ -45,19 +45,19 @@ module _ (base : List ℕ) (fill : ℕ) (pre : List Row) (r s : Row) (bs : List 
       let next = cut.2.1.0 in
       let up = ends_le (end_of s) fill bs cut.2.1.1 in
       let start : r.place + n + (end_of s - end_of s) ≡ r.place + n = omega arith in
-      let behind = subst (λ x. EndToEnd x (map (moved (end_of s) (r.place + n)) bs) (fill_after fill r.place (end_of s) n)) start (ends_moved (end_of s) (r.place + n) (end_of s) fill bs (omega arith) cut.2.1.1) in
+      let behind = subst (λ x. EndToEnd x (map (moved_row (end_of s) (r.place + n)) bs) (fill_after fill r.place (end_of s) n)) start (ends_moved (end_of s) (r.place + n) (end_of s) fill bs (omega arith) cut.2.1.1) in
       rw united_as (record {
-        end_to_end = ends_append 0 cut.0 (fill_after fill r.place (end_of s) n) pre (one_row n r s ∷ map (moved (end_of s) (r.place + n)) bs) cut.1 (at, behind);
-        few = let k = h.few in omega (arith, length-append pre (r ∷ s ∷ bs), length-append pre (one_row n r s ∷ map (moved (end_of s) (r.place + n)) bs), length-map bs (moved (end_of s) (r.place + n)));
+        end_to_end = ends_append 0 cut.0 (fill_after fill r.place (end_of s) n) pre (one_row n r s ∷ map (moved_row (end_of s) (r.place + n)) bs) cut.1 (at, behind);
+        few = let k = h.few in omega (arith, length-append pre (r ∷ s ∷ bs), length-append pre (one_row n r s ∷ map (moved_row (end_of s) (r.place + n)) bs), length-map bs (moved_row (end_of s) (r.place + n)));
       })
 
   united_chain : LeadsOn parted → LeadsOn (unite_rows parted i n)
   united_chain h =
       let cut = chained_split base pre (r ∷ s ∷ bs) h in
-      subst LeadsOn (sym united_as) (chained_append base pre (one_row n r s ∷ map (moved (end_of s) (r.place + n)) bs) cut.0 (cut.1.0, chained_moved (end_of s) (r.place + n) s.to bs cut.1.1.1))
+      subst LeadsOn (sym united_as) (chained_append base pre (one_row n r s ∷ map (moved_row (end_of s) (r.place + n)) bs) cut.0 (cut.1.0, chained_moved (end_of s) (r.place + n) s.to bs cut.1.1.1))
 
   united_long : suc (length (unite_rows parted i n).rows) ≡ length (pre ++ (r ∷ s ∷ bs))
-  united_long = ap (λ t. suc (length t.rows)) united_as ∙ omega (arith, length-append pre (r ∷ s ∷ bs), length-append pre (one_row n r s ∷ map (moved (end_of s) (r.place + n)) bs), length-map bs (moved (end_of s) (r.place + n)))
+  united_long = ap (λ t. suc (length t.rows)) united_as ∙ omega (arith, length-append pre (r ∷ s ∷ bs), length-append pre (one_row n r s ∷ map (moved_row (end_of s) (r.place + n)) bs), length-map bs (moved_row (end_of s) (r.place + n)))
 
 -- a table by its rows
 abbrev with_rows : Table → List Row → Table
@@ -93,9 +93,9 @@ module _ (t : Table) (i n : ℕ) (l : i + 1 < length t.rows) where
   united_row_here = get_or_at (take i t.rows) _ _ no_row i (length-take i t.rows ∙ omega arith)
 
   united_row_after : (k : ℕ) → i < k → k + 1 < length t.rows
-      → row_at (unite_rows t i n) k ≡ moved (end_of (row_at t (i + 1))) ((row_at t i).place + n) (row_at t (k + 1))
+      → row_at (unite_rows t i n) k ≡ moved_row (end_of (row_at t (i + 1))) ((row_at t i).place + n) (row_at t (k + 1))
   united_row_after k b m =
-      let f = moved (end_of (row_at t (i + 1))) ((row_at t i).place + n) in
+      let f = moved_row (end_of (row_at t (i + 1))) ((row_at t i).place + n) in
       let one = one_row n (row_at t i) (row_at t (i + 1)) in
       let there : k - suc i < length (drop (i + 2) t.rows) = omega (arith, length-drop (i + 2) t.rows) in
       let step : k - i ≡ suc (k - suc i) = omega arith in
@@ -112,27 +112,28 @@ dropped_laid base (r ∷ rs) fill l h f =
     let start : 0 + (end_of r - end_of r) ≡ 0 = omega arith in
     let end : 0 + (fill - end_of r) ≡ fill_after fill 0 (end_of r) 0 = omega arith in
     record {
-      end_to_end = subst (λ x. EndToEnd x (map (moved (end_of r) 0) rs) (fill_after fill 0 (end_of r) 0)) start
-          (subst (λ x. EndToEnd (0 + (end_of r - end_of r)) (map (moved (end_of r) 0) rs) x) end (ends_moved (end_of r) 0 (end_of r) fill rs (omega arith) h.1));
-      few = omega (arith, length-map rs (moved (end_of r) 0));
+      end_to_end = subst (λ x. EndToEnd x (map (moved_row (end_of r) 0) rs) (fill_after fill 0 (end_of r) 0)) start
+          (subst (λ x. EndToEnd (0 + (end_of r - end_of r)) (map (moved_row (end_of r) 0) rs) x) end (ends_moved (end_of r) 0 (end_of r) fill rs (omega arith) h.1));
+      few = omega (arith, length-map rs (moved_row (end_of r) 0));
     }
 
 dropped_chain : (base : List ℕ) (rs : List Row) (fill : ℕ) → 0 < length rs → Chained base rs → LeadsOn (drop_row (record { base = base; rows = rs; fill = fill }))
 dropped_chain base [] fill l h = absurd (omega arith)
 dropped_chain base (r ∷ rs) fill l h = chained_moved (end_of r) 0 r.to rs h.1
 
-dropped_rows : (old new : ℕ) (rs : List Row) → 0 < length rs → suc (length (map (moved old new) (drop 1 rs))) ≡ length rs
-dropped_rows old new rs l = omega (arith, length-map (drop 1 rs) (moved old new), length-drop 1 rs)
+dropped_rows : (old new : ℕ) (rs : List Row) → 0 < length rs → suc (length (map (moved_row old new) (drop 1 rs))) ≡ length rs
+dropped_rows old new rs l = omega (arith, length-map (drop 1 rs) (moved_row old new), length-drop 1 rs)
 
-dropped_row_after : (t : Table) (k : ℕ) → k + 1 < length t.rows → row_at (drop_row t) k ≡ moved (end_of (row_at t 0)) 0 (row_at t (k + 1))
+dropped_row_after : (t : Table) (k : ℕ) → k + 1 < length t.rows → row_at (drop_row t) k ≡ moved_row (end_of (row_at t 0)) 0 (row_at t (k + 1))
 dropped_row_after t k l =
-    let f = moved (end_of (row_at t 0)) 0 in
+    let f = moved_row (end_of (row_at t 0)) 0 in
     let next : 1 + k ≡ k + 1 = omega arith in
     get_or-map f (drop 1 t.rows) k no_row no_row (omega (arith, length-drop 1 t.rows))
     ∙ ap f (get_or-drop 1 t.rows k no_row ∙ ap (λ j. get_or t.rows j no_row) next)
 
 pub laws_of_tables : LawsOfTables
 laws_of_tables = record {
+  limit = refl;
   empty = λ name. record { end_to_end = refl; few = omega arith };
   added = λ t n from to h l. record {
     end_to_end = ends_append 0 t.fill (t.fill + n) t.rows (record { place = t.fill; length = n; from = from; to = to } ∷ []) h.end_to_end (refl, refl);

@@ -3,6 +3,7 @@ pub mod Entries
 pub mod Shelves
 pub mod Outcomes
 pub mod Steps
+pub mod Planned
 pub mod Calls
 pub mod Ledger
 pub mod Stretches

@@ -1,10 +1,11 @@
--- Every series of calls on one shelf, its bytes and the base image: what each call answers, and what is there in the end. Rests on the calls and their
--- outcomes, on what the ledger is fed, on the table, on faults and on the images of a store.
-use Rattle.std.specs.Prelude.{ℕ, List, [], ◌∷◌, ◌++◌, take, drop, is_err, Ok, Err, Result}
+-- Every series of calls on one shelf, its bytes and the base image: what each call answers, and
+-- what is there in the end. Rests on the calls and their outcomes, on the events of the ledger, on
+-- the table, on faults and on the images of a store.
+use Rattle.std.specs.Prelude.{ℕ, max, List, [], ◌∷◌, ◌++◌, length, take, drop, is_err, Result}
 use Rattle.fault.specs.declared.kinds.Fault.{Fault}
 use Rattle.store.specs.Stores.{Images}
 use Rattle.table.specs.Tables.{Table, empty_table}
-use Rattle.shelf.specs.Outcomes.{put_answer, put_table, put_bytes, join_answer, join_work, join_table, join_bytes, settle_answer, settle_image, settle_table, settle_bytes, list_answer, list_buffer}
+use Rattle.shelf.specs.Outcomes.{CallOutcome, put_outcome, join_outcome, settle_outcome, list_outcome}
 use Rattle.shelf.specs.Calls.{Call, put, join, settle, list}
 use Rattle.shelf.specs.Ledger.{Fed}
 
@@ -15,56 +16,53 @@ pub record World : Type 0 where
   pub image : List ℕ
 
 -- an empty shelf beside a base image
-abbrev pub opened : List ℕ → List ℕ → List ℕ → World
-opened name bytes image = record { table = empty_table name; bytes = bytes; image = image }
+abbrev pub first_world : List ℕ → List ℕ → List ℕ → World
+first_world name bytes image = record { table = empty_table name; bytes = bytes; image = image }
 
--- a call as it was made: its arguments, what it answered, and what the buffer that it was handed then held. The answer of put and settle tells nothing
--- but that they were done, here the number 0
+-- a call that got the first k of the shelf's bytes, and the whole bytes: those beyond stay
+abbrev pub outcome_in_bytes : ℕ → List ℕ → CallOutcome → CallOutcome
+outcome_in_bytes k bytes o = record o { bytes = o.bytes ++ drop k bytes }
+
+-- the same of a call that did not get the base image: it stays
+abbrev pub outcome_beside : ℕ → World → CallOutcome → CallOutcome
+outcome_beside k w o = record (outcome_in_bytes k w.bytes o) { image = w.image }
+
+-- a call as it was made: its arguments, its answer, and what its buffer then held
 pub record Event : Type 0 where
   pub call : Call
   pub answer : Result ℕ Fault
   pub buffer : List ℕ
 
-abbrev pub untold : Result (Unit {0}) Fault → Result ℕ Fault
-untold (Ok u) = Ok 0
-untold (Err f) = Err f
-
--- what of it the ledger is fed
-abbrev pub fed : Event → Fed
-fed e = record { call = e.call; refused = is_err e.answer }
+-- what of it the ledger gets
+abbrev pub fed_call : Event → Fed
+fed_call e = record { call = e.call; refused = is_err e.answer }
 
 -- `holds` is the set of images that the store can hold
 module _ (holds : Images) where
-  abbrev pub event : World → Call → Event
-  event w (put k stream) = record { call = put k stream; answer = untold (put_answer w.table (take k w.bytes) stream); buffer = [] }
-  event w (join k i work) = record { call = join k i work; answer = join_answer w.table (take k w.bytes) i work; buffer = join_work w.table (take k w.bytes) i work }
-  event w (settle k) = record { call = settle k; answer = untold (settle_answer holds w.table (take k w.bytes) w.image); buffer = [] }
-  event w (list k i text) = record { call = list k i text; answer = list_answer w.table (take k w.bytes) i text; buffer = list_buffer w.table (take k w.bytes) i text }
+  -- the outcome of any call: this is the one place that names each kind of call
+  abbrev pub outcome_of : World → Call → CallOutcome
+  outcome_of w (put k stream) = outcome_beside k w (put_outcome w.table (take k w.bytes) stream)
+  outcome_of w (join k i work) = outcome_beside k w (join_outcome w.table (take k w.bytes) i work)
+  outcome_of w (settle k) = outcome_in_bytes k w.bytes (settle_outcome holds w.table (take k w.bytes) w.image)
+  outcome_of w (list k i text) = outcome_beside k w (list_outcome w.table (take k w.bytes) i text)
 
-  -- the shelf, its bytes and the image after a call; bytes beyond those handed in are as they were
-  abbrev pub after : World → Call → World
-  after w (put k stream) = record {
-    table = put_table w.table (take k w.bytes) stream;
-    bytes = put_bytes w.table (take k w.bytes) stream ++ drop k w.bytes;
-    image = w.image;
-  }
-  after w (join k i work) = record {
-    table = join_table w.table (take k w.bytes) i work;
-    bytes = join_bytes w.table (take k w.bytes) i work ++ drop k w.bytes;
-    image = w.image;
-  }
-  after w (settle k) = record {
-    table = settle_table holds w.table (take k w.bytes) w.image;
-    bytes = settle_bytes holds w.table (take k w.bytes) w.image ++ drop k w.bytes;
-    image = settle_image holds w.table (take k w.bytes) w.image;
-  }
-  after w (list k i text) = w
+  abbrev pub event : World → Call → Event
+  event w c = record { call = c; answer = (outcome_of w c).answer; buffer = (outcome_of w c).buffer }
+
+  -- the shelf, its bytes and the image after a call
+  abbrev pub world_after : World → Call → World
+  world_after w c = record { table = (outcome_of w c).table; bytes = (outcome_of w c).bytes; image = (outcome_of w c).image }
 
   -- a series: the calls as they were made, and what is there after the last
   abbrev pub events : World → List Call → List Event
   events w [] = []
-  events w (c ∷ cs) = event w c ∷ events (after w c) cs
+  events w (c ∷ cs) = event w c ∷ events (world_after w c) cs
 
-  abbrev pub last : World → List Call → World
-  last w [] = w
-  last w (c ∷ cs) = last (after w c) cs
+  abbrev pub last_world : World → List Call → World
+  last_world w [] = w
+  last_world w (c ∷ cs) = last_world (world_after w c) cs
+
+  -- the largest size that the image has after any of the calls
+  abbrev pub largest_size : World → List Call → ℕ
+  largest_size w [] = 0
+  largest_size w (c ∷ cs) = max (length (world_after w c).image) (largest_size (world_after w c) cs)

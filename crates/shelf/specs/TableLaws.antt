@@ -1,12 +1,15 @@
--- What the operations on a table keep: the entries lie end to end and their names meet, and rows that are not touched stay, or move and nothing else.
--- Rests on Tables.
+-- What the operations on a table keep: the entries lie end to end and their names meet, and rows
+-- that are not touched stay, or move and nothing else. Rests on Tables.
 use Rattle.std.specs.Prelude.{◌≡◌, ℕ, suc, ◌+◌, ◌<◌, ◌≤◌, List, length}
-use Rattle.table.specs.Tables.{Table, empty_table, end_of, row_at, next_name, moved, one_row, add_row, unite_rows, drop_row, LaidOut, LeadsOn}
+use Rattle.table.specs.declared.table.TheConstants.{MOST_ENTRIES}
+use Rattle.table.specs.Tables.{Table, empty_table, end_of, row_at, next_name, moved_row, one_row, add_row, unite_rows, drop_row, LaidOut, LeadsOn}
 
 pub record LawsOfTables : Type 0 where
+  -- the number of the rules that a constant has
+  pub limit : MOST_ENTRIES ≡ 64
   -- an empty table, and a table after each operation, is laid out
   pub empty : (name : List ℕ) → LaidOut (empty_table name)
-  pub added : (t : Table) (n : ℕ) (from to : List ℕ) → LaidOut t → length t.rows < 64 → LaidOut (add_row t n from to)
+  pub added : (t : Table) (n : ℕ) (from to : List ℕ) → LaidOut t → length t.rows < MOST_ENTRIES → LaidOut (add_row t n from to)
   pub united : (t : Table) (i n : ℕ) → LaidOut t → i + 1 < length t.rows → LaidOut (unite_rows t i n)
   pub dropped : (t : Table) → LaidOut t → 0 < length t.rows → LaidOut (drop_row t)
   -- an entry lies within the fill, and its neighbour begins where it ends
@@ -24,5 +27,5 @@ pub record LawsOfTables : Type 0 where
   pub united_before : (t : Table) (i n k : ℕ) → i + 1 < length t.rows → k < i → row_at (unite_rows t i n) k ≡ row_at t k
   pub united_here : (t : Table) (i n : ℕ) → i + 1 < length t.rows → row_at (unite_rows t i n) i ≡ one_row n (row_at t i) (row_at t (i + 1))
   pub united_after : (t : Table) (i n k : ℕ) → i < k → k + 1 < length t.rows
-      → row_at (unite_rows t i n) k ≡ moved (end_of (row_at t (i + 1))) ((row_at t i).place + n) (row_at t (k + 1))
-  pub dropped_after : (t : Table) (k : ℕ) → k + 1 < length t.rows → row_at (drop_row t) k ≡ moved (end_of (row_at t 0)) 0 (row_at t (k + 1))
+      → row_at (unite_rows t i n) k ≡ moved_row (end_of (row_at t (i + 1))) ((row_at t i).place + n) (row_at t (k + 1))
+  pub dropped_after : (t : Table) (k : ℕ) → k + 1 < length t.rows → row_at (drop_row t) k ≡ moved_row (end_of (row_at t 0)) 0 (row_at t (k + 1))

@@ -1,47 +1,51 @@
-ghost use Rattle.std.specs.Prelude.{◌≡◌, ◌&&◌, IfOk, Ok};
-ghost use Rattle.join.specs.Sources.{meant, source_difference, Sourced};
-ghost use Rattle.stream.specs.Difference.{meaning};
+ghost use Rattle.std.specs.Prelude.{◌≡◌, ◌&&◌, IfOk};
+ghost use Rattle.join.specs.Plans.{plan_of};
 ghost use Rattle.stream.specs.Verdict.{same};
 ghost use Rattle.table.specs.Entries.{row_of};
 ghost use Rattle.table.specs.Names.{name_of};
 ghost use Rattle.shelf.specs.Entries.{is_whole, read_row};
-ghost use Rattle.shelf.specs.Steps.{Own};
+ghost use Rattle.shelf.specs.Planned.{planned_difference, planned_meaning, PlanHolds, IsOwn};
 
+use crate::planned::Planned;
 use fault::{Cause, Fault};
-use join::{Source, read_source};
+use join::is_canonical;
 use overlay::Side;
-use stream::Parts;
+use stream::{Ranges, RunBuffer, Stream};
 use table::Entry;
 
-// Whether a source has the names of its row.
-fn has_names(row: Entry, source: Source) -> bool
-    ensures { result ≡ (same source.entry.from.now (name_of row.from) && same source.entry.to.now (name_of row.to)) }
+// Whether a stream has the names of its row.
+fn has_names(row: Entry, stream: Stream) -> bool
+    ensures { result
+        ≡ (same stream.entry.from.now (name_of row.from) && same stream.entry.to.now (name_of row.to)) }
 {
-    row.from.is(source.from) && row.to.is(source.to)
+    row.from.is(stream.from) && row.to.is(stream.to)
 }
 
-// Whether a source is the canonical stream of its difference, and has the names of its row.
-fn is_whole(row: Entry, source: Source) -> bool
-    requires { meaning source.bytes.now ≡ Ok (source_difference source) }
-    ensures { result ≡ is_whole (row_of row) source.entry.bytes.now (source_difference source.entry) }
+// Whether a stream is the canonical one of its difference, and has the names of its row.
+fn is_whole(row: Entry, planned: Planned) -> bool
+    requires { planned.plan ≡ plan_of (planned_difference planned) }
+    ensures { result
+        ≡ is_whole (row_of row) planned.entry.stream.bytes.now (planned_difference planned.entry) }
 {
-    source.is_canonical() && has_names(row, source)
+    is_canonical(planned.stream, planned.plan) && has_names(row, planned.stream)
 }
 
-// Reads the stream of a row: its fault, or damage where it is not canonical or has other names.
+// Reads the stream of a row and finds its plan: its fault, or damage where it is not canonical or
+// has other names.
 pub(crate) fn read_row<'s, 'r>(
     row: Entry,
     stream: &'s [u8],
     side: Side,
-    runs: &'r mut Parts,
-) -> Result<Source<'s, 'r>, Fault>
-    ensures means { meant result ≡ read_row (row_of row) stream.now }
-    ensures sourced { IfOk result (λ s. Sourced side s) }
-    ensures own { IfOk result (λ s. Own s) }
+    runs: &'r mut RunBuffer,
+    ranges: &mut Ranges,
+) -> Result<Planned<'s, 'r>, Fault>
+    ensures means { planned_meaning result ≡ read_row (row_of row) stream.now }
+    ensures own { IfOk result (IsOwn side) }
+    ensures plan { IfOk result (λ p. PlanHolds p ranges.new) }
 {
-    let source = read_source(stream, side, runs)?;
-    if !is_whole(row, source) {
+    let planned = Planned::read(stream, side, runs, ranges)?;
+    if !is_whole(row, planned) {
         return Err(Fault::new(Cause::Damaged, 0));
     }
-    Ok(source)
+    Ok(planned)
 }

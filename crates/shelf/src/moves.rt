@@ -1,7 +1,7 @@
 // What a join and a settle do to a shelf, its table and its bytes, once their stream is there.
 ghost use Rattle.std.specs.Prelude.{◌≡◌, ◌+◌, ◌<◌, ◌≤◌, [], length};
-ghost use Rattle.shelf.specs.Entries.{replaced};
-ghost use Rattle.shelf.specs.Outcomes.{united_fill};
+ghost use Rattle.shelf.specs.Entries.{bytes_with};
+ghost use Rattle.shelf.specs.Outcomes.{united_fill, united_bytes};
 ghost use Rattle.table.specs.Tables.{end_of, row_at, unite_rows, drop_row};
 
 use crate::bytes::{close_front, replace};
@@ -13,7 +13,7 @@ pub(crate) fn unite_entries(table: &mut EntryTable, bytes: &mut [u8], i: usize, 
     requires reaches { table.old.fill ≤ length bytes.old }
     requires room { united_fill table.old i (length joined.now) ≤ length bytes.old }
     ensures table { table.new ≡ unite_rows table.old i (length joined.now) }
-    ensures bytes { bytes.new ≡ replaced table.old.fill bytes.old (row_at table.old i).place (end_of (row_at table.old (i + 1))) joined.now }
+    ensures bytes { bytes.new ≡ united_bytes table.old bytes.old i joined.now }
 {
     let earlier = table.entry(i);
     let later = table.entry(i + 1);
@@ -27,7 +27,8 @@ pub(crate) fn drop_entry(table: &mut EntryTable, bytes: &mut [u8])
     requires one { 0 < length table.old.rows }
     requires reaches { table.old.fill ≤ length bytes.old }
     ensures table { table.new ≡ drop_row table.old }
-    ensures bytes { bytes.new ≡ replaced table.old.fill bytes.old 0 (end_of (row_at table.old 0)) [] }
+    ensures bytes { bytes.new
+        ≡ bytes_with table.old.fill bytes.old 0 (end_of (row_at table.old 0)) [] }
 {
     let first = table.entry(0);
     close_front(bytes, table.fill(), first.place + first.length);

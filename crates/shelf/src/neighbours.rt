@@ -1,19 +1,18 @@
-// Two entries side by side, and their join, which goes into the work buffer if there is room for it there
-// and on the shelf.
-ghost use Rattle.std.specs.Prelude.{◌≡◌, ◌+◌, ◌^◌, ◌<◌, ◌≤◌, length, IfOk, Ok};
-ghost use Rattle.fault.specs.Fault.{then};
+// Two entries side by side, and their join, which goes into the work buffer if there is room for it
+// there and on the shelf.
+ghost use Rattle.std.specs.Prelude.{◌≡◌, ◌+◌, ◌^◌, ◌<◌, ◌≤◌, length, IfOk};
 ghost use Rattle.join.specs.Joins.{pair_join, pair_meant};
-ghost use Rattle.shelf.specs.Entries.{are_there, entry};
+ghost use Rattle.table.specs.declared.table.TheConstants.{MOST_ENTRIES};
+ghost use Rattle.shelf.specs.Entries.{are_there};
 ghost use Rattle.shelf.specs.Outcomes.{united_fill, finds_room, join_fits};
-ghost use Rattle.stream.specs.Buffers.{filled_by};
-ghost use Rattle.stream.specs.Difference.{joined, canonical};
-ghost use Rattle.stream.specs.Verdict.{checked};
+ghost use Rattle.shelf.specs.Steps.{neighbours_join, stream_answer, stream_buffer};
+ghost use Rattle.stream.specs.Verdict.{check_answer};
 
 use crate::contents::Contents;
 use fault::{Cause, Fault, Layer};
 use join::Pair;
 use overlay::{RangeMark, Run, Side};
-use stream::{MOST_RECORDS, Parts};
+use stream::{MOST_RECORDS, RunBuffer};
 use table::EntryTable;
 
 // Entries i and i + 1 of a shelf.
@@ -22,7 +21,7 @@ pub(crate) struct Neighbours<'a> {
     contents: Contents<'a>,
     i: usize,
     ghost two: { i + 1 < length contents.table.now.rows },
-    ghost few: { length contents.table.now.rows ≤ 64 },
+    ghost few: { length contents.table.now.rows ≤ MOST_ENTRIES },
 }
 
 impl<'a> Neighbours<'a> {
@@ -32,8 +31,10 @@ impl<'a> Neighbours<'a> {
         bytes: &'a [u8],
         i: usize,
     ) -> Result<Neighbours<'a>, Fault>
-        ensures answer { checked result ≡ are_there table.now bytes.now i 1 }
-        ensures same { IfOk result (λ n. (n.contents.table.now ≡ table.now) × ((n.contents.bytes.now ≡ bytes.now) × (n.i ≡ i))) }
+        ensures answer { check_answer result ≡ are_there table.now bytes.now i 1 }
+        ensures contents { IfOk result
+            (λ n. (n.contents.table.now ≡ table.now) × (n.contents.bytes.now ≡ bytes.now)) }
+        ensures index { IfOk result (λ n. n.i ≡ i) }
     {
         let contents = Contents::at(table, bytes, i, 1)?;
         Ok(Neighbours { contents, i })
@@ -42,17 +43,23 @@ impl<'a> Neighbours<'a> {
     // Reads the two, each on its side of a join.
     pub(crate) fn read<'r>(
         self,
-        earlier_runs: &'r mut Parts,
-        later_runs: &'r mut Parts,
+        earlier_runs: &'r mut RunBuffer,
+        later_runs: &'r mut RunBuffer,
     ) -> Result<Pair<'a, 'r>, Fault>
-        ensures { pair_meant result ≡ then (entry self.entry.contents.table.now self.entry.contents.bytes.now self.entry.i) (λ d. then (entry self.entry.contents.table.now self.entry.contents.bytes.now (self.entry.i + 1)) (λ e. Ok (joined d e))) }
+        ensures { pair_meant result
+            ≡ neighbours_join self.entry.contents.table.now self.entry.contents.bytes.now self.entry.i }
     {
-        let earlier = self.contents.read(self.i, Side::Earlier, earlier_runs)?;
-        let later = self.contents.read(self.i + 1, Side::Later, later_runs)?;
-        Ok(Pair { earlier, later })
+        let contents = self.contents;
+        let mut ranges = [Run::<RangeMark>::NONE; MOST_RECORDS];
+        let earlier = contents.read(self.i, Side::Earlier, earlier_runs, &mut ranges)?;
+        let later = contents.read(self.i + 1, Side::Later, later_runs, &mut ranges)?;
+        Ok(Pair {
+            earlier: earlier.stream,
+            later: later.stream,
+        })
     }
 
-    // The fill after the two became one entry of so many bytes.
+    // The fill after the two became one entry of `byte_count` bytes.
     fn united_fill(self, byte_count: usize) -> usize
         requires { self.contents.table.now.fill + byte_count < 2 ^ 64 }
         ensures { result ≡ united_fill self.entry.contents.table.now self.entry.i byte_count }
@@ -64,10 +71,12 @@ impl<'a> Neighbours<'a> {
         earlier.place + byte_count + (table.fill() - end)
     }
 
-    // Refuses a joined stream of so many bytes for which the work buffer or the shelf's bytes are too
-    // short.
+    // Refuses a joined stream of `byte_count` bytes for which the work buffer or the shelf's bytes
+    // are too short.
     fn check_room(self, work: &[u8], byte_count: u64) -> Result<usize, Fault>
-        ensures { result ≡ finds_room self.entry.contents.table.now self.entry.contents.bytes.now self.entry.i work.now byte_count }
+        ensures { result
+            ≡ finds_room self.entry.contents.table.now self.entry.contents.bytes.now self.entry.i
+            work.now byte_count }
     {
         if (work.len() as u64) < byte_count {
             return Err(Fault::new(Cause::ShortBuffer, byte_count).at_layer(Layer::Join));
@@ -79,17 +88,22 @@ impl<'a> Neighbours<'a> {
         Ok(byte_count as usize)
     }
 
-    // Writes the join of the two, which were read, to the front of the work buffer and tells its length.
-    // Refused: more than 512 ranges, then a work buffer that is too short, then a shelf that is.
+    // Writes the join of the two, which were read, to the first bytes of the work buffer; the
+    // answer is its length. Refused: more than 512 ranges, then a work buffer or a shelf that is
+    // too short.
     pub(crate) fn write(self, pair: Pair, work: &mut [u8]) -> Result<usize, Fault>
-        ensures answer { result ≡ then (join_fits self.entry.contents.table.now self.entry.contents.bytes.now self.entry.i work.old (pair_join pair.entry)) (λ d. Ok (length (canonical d))) }
-        ensures work { work.new ≡ filled_by (then (join_fits self.entry.contents.table.now self.entry.contents.bytes.now self.entry.i work.old (pair_join pair.entry)) (λ d. Ok (canonical d))) work.old }
+        ensures answer { result ≡ stream_answer
+            (join_fits self.entry.contents.table.now self.entry.contents.bytes.now self.entry.i
+            work.old (pair_join pair.entry)) }
+        ensures work { work.new ≡ stream_buffer work.old
+            (join_fits self.entry.contents.table.now self.entry.contents.bytes.now self.entry.i
+            work.old (pair_join pair.entry)) }
     {
-        let mut records = [Run::<RangeMark>::NONE; MOST_RECORDS];
-        let plan = pair.plan(&mut records)?;
+        let mut ranges = [Run::<RangeMark>::NONE; MOST_RECORDS];
+        let plan = pair.plan(&mut ranges)?;
         let byte_count = self.check_room(work, plan.length)?;
         let count = plan.count;
-        pair.write(&records[0..count], work);
+        pair.write(&ranges[..count], work);
         Ok(byte_count)
     }
 }

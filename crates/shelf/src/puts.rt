@@ -1,38 +1,43 @@
-ghost use Rattle.std.specs.Prelude.{◌≡◌, ◌+◌, ◌≤◌, length, IfOk, Ok};
-ghost use Rattle.fault.specs.Fault.{fault, then};
+ghost use Rattle.std.specs.Prelude.{◌≡◌, IfOk, Ok};
+ghost use Rattle.fault.specs.Fault.{fault, and_then};
 ghost use Rattle.fault.specs.declared.kinds.Cause.TheVariants as causes;
-ghost use Rattle.join.specs.Sources.{meant, source_difference};
-ghost use Rattle.stream.specs.Difference.{meaning, canonical};
-ghost use Rattle.stream.specs.Verdict.{checked};
-ghost use Rattle.table.specs.Tables.{add_row};
-ghost use Rattle.shelf.specs.Entries.{refuse_if, is_short, replaced};
-ghost use Rattle.shelf.specs.Outcomes.{put_fits, put_plan, put_answer, put_table, put_bytes};
+ghost use Rattle.join.specs.Plans.{plan_of};
+ghost use Rattle.stream.specs.Difference.{meaning};
+ghost use Rattle.stream.specs.Meaning.{ranges};
+ghost use Rattle.stream.specs.Streams.{stream_cells};
+ghost use Rattle.stream.specs.Verdict.{check_answer};
+ghost use Rattle.shelf.specs.Entries.{refuse_if, is_short};
+ghost use Rattle.shelf.specs.Outcomes.{outcome, put_fits, put_plan, added_outcome};
+ghost use Rattle.shelf.specs.Planned.{planned_difference, planned_meaning, PlanHolds};
 ghost use Rattle.shelf.specs.Steps.{HasRoom};
 
 use crate::contents::Contents;
+use crate::planned::Planned;
 use fault::{Cause, Fault, Layer, Located};
-use join::{Source, read_source};
-use overlay::{PayloadMark, Run, Side};
-use stream::{MOST_RECORDS, Parts};
+use join::write_planned;
+use overlay::{RangeMark, Run, Side};
+use stream::{Ranges, RunBuffer};
 use table::{EntryTable, MOST_ENTRIES};
 
 impl Contents<'_> {
-    // Refuses a source that may not be added: it has to lead on to a new name, and to find room in the
-    // table and, for its canonical stream, in the bytes.
-    #[tactic(auto, using(join::proofs::Kept::source_short))]
-    fn check_fit(self, source: Source) -> Result<(), Fault>
-        ensures { result ≡ checked (put_fits self.entry.table.now self.entry.bytes.now (source_difference source.entry)) }
+    // Refuses a stream that may not be added: it has to lead on to a new name, and to find room in
+    // the table and, for its canonical stream, in the bytes.
+    #[tactic(auto, using(join::proofs::Kept::stream_short))]
+    fn check_fit(self, planned: Planned) -> Result<(), Fault>
+        requires { planned.plan ≡ plan_of (planned_difference planned) }
+        ensures { result ≡ check_answer
+            (put_fits self.entry.table.now self.entry.bytes.now (planned_difference planned.entry)) }
     {
-        if !self.table.next_name().is(source.from) {
+        if !self.table.next_name().is(planned.stream.from) {
             return Err(Fault::new(Cause::NamesDiffer, 0).at_layer(Layer::Shelf));
         }
         if self.table.count() >= MOST_ENTRIES {
             return Err(Fault::new(Cause::ShelfFull, 0));
         }
-        if self.table.is_taken(source.to) {
+        if self.table.is_taken(planned.stream.to) {
             return Err(Fault::new(Cause::NameTaken, 0));
         }
-        let needed = self.table.fill() as u64 + source.canonical_length();
+        let needed = self.table.fill() as u64 + planned.plan.length;
         if (self.bytes.len() as u64) < needed {
             return Err(Fault::new(Cause::ShortBuffer, needed).at_layer(Layer::Shelf));
         }
@@ -40,19 +45,23 @@ impl Contents<'_> {
     }
 }
 
-// Reads a stream that may be added to the shelf.
+// Reads a stream that may be added to the shelf, and finds its plan.
 fn fit_stream<'s, 'r>(
     table: &EntryTable,
     bytes: &[u8],
     stream: &'s [u8],
-    runs: &'r mut Parts,
-) -> Result<Source<'s, 'r>, Fault>
-    ensures { meant result ≡ refuse_if (is_short table.now bytes.now) (fault causes.Damaged 0) (then (meaning stream.now) (put_fits table.now bytes.now)) }
+    runs: &'r mut RunBuffer,
+    ranges: &mut Ranges,
+) -> Result<Planned<'s, 'r>, Fault>
+    ensures means { planned_meaning result
+        ≡ refuse_if (is_short table.now bytes.now) (fault causes.Damaged 0)
+        (and_then (meaning stream.now) (put_fits table.now bytes.now)) }
+    ensures plan { IfOk result (λ p. PlanHolds p ranges.new) }
 {
     let contents = Contents::of(table, bytes)?;
-    let source = read_source(stream, Side::Later, runs)?;
-    contents.check_fit(source)?;
-    Ok(source)
+    let planned = Planned::read(stream, Side::Later, runs, ranges)?;
+    contents.check_fit(planned)?;
+    Ok(planned)
 }
 
 // The same, with the number that the entry would have had in each fault.
@@ -61,45 +70,35 @@ pub(crate) fn plan_put<'s, 'r>(
     table: &EntryTable,
     bytes: &[u8],
     stream: &'s [u8],
-    runs: &'r mut Parts,
-) -> Result<Source<'s, 'r>, Fault>
-    ensures means { meant result ≡ put_plan table.now bytes.now stream.now }
-    ensures room { IfOk result (λ s. HasRoom table.now bytes.now (source_difference s)) }
+    runs: &'r mut RunBuffer,
+    ranges: &mut Ranges,
+) -> Result<Planned<'s, 'r>, Fault>
+    ensures means { planned_meaning result ≡ put_plan table.now bytes.now stream.now }
+    ensures room { IfOk result (λ p. HasRoom table.now bytes.now (planned_difference p)) }
+    ensures plan { IfOk result (λ p. PlanHolds p ranges.new) }
 {
-    fit_stream(table, bytes, stream, runs).in_entry(table.count() as u64)
+    fit_stream(table, bytes, stream, runs, ranges).in_entry(table.count() as u64)
 }
 
-// Writes the canonical stream of a source into the bytes from the fill on, and tells its length.
-fn write_at(source: Source, bytes: &mut [u8], fill: usize) -> usize
-    requires { fill + length (canonical (source_difference source)) ≤ length bytes.old }
-    ensures told { result ≡ length (canonical (source_difference source.entry)) }
-    ensures bytes { bytes.new ≡ replaced fill bytes.old fill fill (canonical (source_difference source.entry)) }
-{
-    source.write(&mut bytes[fill..]).unwrap()
-}
-
-// The canonical stream of a source becomes the last entry.
-fn add_source(table: &mut EntryTable, bytes: &mut [u8], source: Source)
-    requires { HasRoom table.old bytes.old (source_difference source) }
-    ensures table { table.new ≡ add_row table.old (length (canonical (source_difference source.entry))) source.entry.from.now source.entry.to.now }
-    ensures bytes { bytes.new ≡ replaced table.old.fill bytes.old table.old.fill table.old.fill (canonical (source_difference source.entry)) }
-{
-    let count = write_at(source, bytes, table.fill());
-    table.add(count, source.from, source.to);
-}
-
-// Adds the canonical stream of a stream to the shelf, as its last entry.
-pub(crate) fn put_stream(
+// The canonical stream of a stream, of which `records` are the ranges, becomes the last entry.
+#[tactic(auto, using(stream::proofs::Kept::short_from, stream::proofs::Kept::short_to))]
+pub(crate) fn add_planned(
     table: &mut EntryTable,
     bytes: &mut [u8],
-    stream: &[u8],
-) -> Result<(), Fault>
-    ensures answer { result ≡ put_answer table.old bytes.old stream.now }
-    ensures table { table.new ≡ put_table table.old bytes.old stream.now }
-    ensures bytes { bytes.new ≡ put_bytes table.old bytes.old stream.now }
+    planned: Planned,
+    records: &[Run<RangeMark>],
+)
+    requires room { HasRoom table.old bytes.old (planned_difference planned) }
+    requires plan { planned.plan ≡ plan_of (planned_difference planned) }
+    requires ranged { records.now ≡ ranges (stream_cells planned.stream) }
+    ensures { outcome (Ok 0) table.new bytes.new
+        ≡ added_outcome table.old bytes.old (planned_difference planned.entry) }
 {
-    let mut runs = [Run::<PayloadMark>::NONE; MOST_RECORDS];
-    let source = plan_put(table, bytes, stream, &mut runs)?;
-    add_source(table, bytes, source);
-    Ok(())
+    let fill = table.fill();
+    write_planned(planned.stream, records, &mut bytes[fill..]);
+    table.add(
+        planned.plan.length as usize,
+        planned.stream.from,
+        planned.stream.to,
+    );
 }

@@ -1,3 +1,4 @@
 pub mod Changes
+pub mod FlatMemory
 pub mod ImageLaws
 pub mod Outcomes

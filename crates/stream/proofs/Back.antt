@@ -1,16 +1,17 @@
--- What reading accepts was written: back from an answer of reading to well-formed records and their bytes.
+-- What reading accepts was written: back from an answer of reading to well-formed records and their
+-- bytes.
 use Rattle.std.proofs.Common.{◌≡◌, ℕ, zero, suc, ◌+◌, ◌-◌, ◌^◌, ◌<◌, ◌≤◌, Bool, true, false, cond, eqb, ltb, List, [], ◌∷◌, ◌++◌, length, take, drop, Ok, Err, Result, sym, refl, ap, ◌∙◌, subst, ap₂, inl, inr, append_assoc, arith, length-append}
 use Rattle.std.proofs.ByRecursion.{All-take, All-drop}
 use Rattle.std.proofs.lemmas.List.{take-append-drop, length-take-le, length-drop, nil_from_length}
 use Rattle.std.proofs.lemmas.Bool.{ltb-false, eqb-true, eqb-false, cases_Bool, and_parts, cond-true, cond-false}
 use Rattle.stream.specs.Bytes.{le, le_bytes, field}
-use Rattle.stream.specs.Rule.{State, Meta, Data, late_rule}
-use Rattle.stream.specs.Steps.{Pos, every_printable, name_by, name_of, size_by, range_by, data_range_of, payload_of, record_of, step_of}
-use Rattle.stream.specs.Records.{Content, from_name, to_name, image_size, data_at, zeros_at, encoded, encodings, header}
-use Rattle.stream.specs.Verdict.{start, reads, onward, before, same}
-use Rattle.stream.specs.Wellformed.{GoodName, GoodRange, Good, rule_of, moved, WellFormed, Bytes, AcceptedIsStream}
+use Rattle.stream.specs.Rule.{State, Meta, Data, from_rule, to_rule, size_rule, late_rule}
+use Rattle.stream.specs.Steps.{Pos, every_printable, name_by, name_length_of, size_by, size_of, range_by, data_range_of, payload_range_of, record_of, step_of}
+use Rattle.stream.specs.Records.{Content, from_name, to_name, image_size, data_at, zeros_at, record_bytes, records_bytes, header}
+use Rattle.stream.specs.Verdict.{start, reads, reads_after, record_before, same}
+use Rattle.stream.specs.Wellformed.{GoodName, GoodRange, Good, rule_of, pos_past, WellFormed, Bytes, AcceptedIsStream}
 use Rattle.stream.specs.declared.kinds.Record.{Record}
-use Rattle.fault.specs.Fault.{then}
+use Rattle.fault.specs.Fault.{and_then}
 use Rattle.fault.specs.declared.kinds.Fault.{Fault}
 use Rattle.fault.specs.declared.kinds.Cause.{Cause}
 use Rattle.fault.specs.declared.kinds.Cause.TheVariants as causes
@@ -25,7 +26,7 @@ pub passes_last : {A E : Type 0} (b : Bool) (e : E) (y x : A) → cond b (Ok y) 
 passes_last true e y x h = (refl, cc)
 passes_last false e y x h = let z : ◌≡◌ {A = ℕ} 0 1 = cc in absurd (omega arith)
 
-pub then_back : {A B E : Type 0} (r : Result A E) (g : A → Result B E) (y : B) → then r g ≡ Ok y → (x : A) × (r ≡ Ok x) × (g x ≡ Ok y)
+pub then_back : {A B E : Type 0} (r : Result A E) (g : A → Result B E) (y : B) → and_then r g ≡ Ok y → (x : A) × (r ≡ Ok x) × (g x ≡ Ok y)
 then_back (Ok x) g y h = (x, refl, h)
 then_back (Err e) g y h = let z : ◌≡◌ {A = ℕ} 0 1 = cc in absurd (omega arith)
 
@@ -38,16 +39,18 @@ at_false b x y z e h = sym (cond-false b x y e) ∙ h
 pub ok_same : {A E : Type 0} (x y : A) → ◌≡◌ {A = Result A E} (Ok x) (Ok y) → x ≡ y
 ok_same x y h = cc
 
+nonzero : (n : ℕ) → (n ≡ 0 → ⊥) → 1 ≤ n
+nonzero n h = omega (arith, h)
+
 pub name_back : (rest : List ℕ) (n m : ℕ) → name_by rest n ≡ Ok m
     → (5 + n ≤ length rest) × (1 ≤ n) × (n ≤ 64) × (every_printable (field rest 5 n) ≡ true) × (n ≡ m)
 name_back rest n m h =
-    let a = passes _ _ _ m h in
-    let b = passes _ _ _ m a.1 in
+    let b = passes _ _ _ m (passes _ _ _ m h).1 in
     let c = passes _ _ _ m b.1 in
     let d = passes _ _ _ m c.1 in
     let e = passes_last _ _ _ m d.1 in
     let zero-not = eqb-false n 0 b.0 in
-    (ltb-false (length rest) (5 + n) d.0, omega (arith, zero-not), ltb-false 64 n c.0, e.0, e.1)
+    (ltb-false (length rest) (5 + n) d.0, nonzero n zero-not, ltb-false 64 n c.0, e.0, e.1)
 
 size_back : (rest : List ℕ) (n m : ℕ) → size_by rest n ≡ Ok m → (9 ≤ length rest) × (n ≤ 2 ^ 40) × (n ≡ m)
 size_back rest n m h =
@@ -79,7 +82,7 @@ field_back n bs h l =
     let f : le_bytes n (le (take n bs)) ≡ take n bs = ap (λ m. le_bytes m (le (take n bs))) (sym (length-take-le n bs l)) ∙ e in
     sym (take-append-drop n bs) ∙ ap (λ t. t ++ drop n bs) (sym f)
 
--- a length of w bytes, and that many bytes behind it
+-- a length of w bytes, and that many bytes after it
 payload_back : (w : ℕ) (bs : List ℕ) → Bytes bs → w + le (take w bs) ≤ length bs
     → (length (take (le (take w bs)) (drop w bs)) ≡ le (take w bs))
     × (bs ≡ le_bytes w (length (take (le (take w bs)) (drop w bs))) ++ (take (le (take w bs)) (drop w bs) ++ drop (le (take w bs)) (drop w bs)))
@@ -91,10 +94,10 @@ payload_back w bs h l =
 
 -- what begins the list, where a record was read
 pub data View (p : Pos) (rest : List ℕ) : Type 0 where
-  a_part : (c : Content) (s : State) (more : List ℕ) → rest ≡ encoded c ++ more → rule_of c p.state ≡ Ok s → Good p c → View p rest
+  a_part : (c : Content) (s : State) (more : List ℕ) → rest ≡ record_bytes c ++ more → rule_of c p.state ≡ Ok s → Good p c → View p rest
   an_end : (s : State) (more : List ℕ) → rest ≡ 101 ∷ more → late_rule p.state ≡ Ok s → View p rest
 
-name_view : (t : ℕ) (bs : List ℕ) (m : ℕ) → Bytes bs → name_of (t ∷ bs) ≡ Ok m
+name_view : (t : ℕ) (bs : List ℕ) (m : ℕ) → Bytes bs → name_length_of (t ∷ bs) ≡ Ok m
     → (name : List ℕ) × (more : List ℕ) × (bs ≡ (le_bytes 4 (length name) ++ name) ++ more) × GoodName name
 name_view t bs m h e =
     let a = name_back (t ∷ bs) (le (take 4 bs)) m e in
@@ -121,7 +124,7 @@ range_view p t bs q h e =
     let P : ℕ × ℕ → Type 0 = λ x. (bs ≡ (le_bytes 8 x.0 ++ le_bytes 8 x.1) ++ drop 8 (drop 8 bs)) × GoodRange p x.0 x.1 in
     subst P (sym a.2) (f, a.1)
 
-data_view : (p : Pos) (t : ℕ) (bs : List ℕ) (q : ℕ × ℕ) → Bytes bs → payload_of p (t ∷ bs) ≡ Ok q
+data_view : (p : Pos) (t : ℕ) (bs : List ℕ) (q : ℕ × ℕ) → Bytes bs → payload_range_of p (t ∷ bs) ≡ Ok q
     → (bytes : List ℕ) × (more : List ℕ) × (bs ≡ (le_bytes 8 q.0 ++ (le_bytes 8 (length bytes) ++ bytes)) ++ more) × GoodRange p q.0 (length bytes)
 data_view p t bs q h e =
     let o = le (take 8 bs) in
@@ -146,55 +149,57 @@ data_view p t bs q h e =
     let r = subst P (sym z) (f, subst Q (sym b.0) a.1) in
     (bytes, more, r.0, r.1)
 
-view_tag : (p : Pos) (t : ℕ) (bs : List ℕ) (x : Record × Pos) → Bytes bs → record_of p (t ∷ bs) t ≡ Ok x → View p (t ∷ bs)
-view_tag p t bs x h e =
-    elim (cases_Bool (eqb t 102)) [
-      | inl y ↦
-          let a = then_back _ _ x (at_true _ _ _ (Ok x) y e) in
-          let b = then_back _ _ x a.2 in
-          let n = name_view t bs b.0 h b.1 in
-          a_part (from_name n.0) a.0 n.1 (ap₂ ◌∷◌ (eqb-true t 102 y) n.2) a.1 n.3
-      | inr y ↦ let e1 = at_false _ _ _ (Ok x) y e in elim (cases_Bool (eqb t 116)) [
-        | inl y1 ↦
-            let a = then_back _ _ x (at_true _ _ _ (Ok x) y1 e1) in
-            let b = then_back _ _ x a.2 in
-            let n = name_view t bs b.0 h b.1 in
-            a_part (to_name n.0) a.0 n.1 (ap₂ ◌∷◌ (eqb-true t 116 y1) n.2) a.1 n.3
-        | inr y1 ↦ let e2 = at_false _ _ _ (Ok x) y1 e1 in elim (cases_Bool (eqb t 115)) [
-          | inl y2 ↦
-              let a = then_back _ _ x (at_true _ _ _ (Ok x) y2 e2) in
-              let b = then_back _ _ x a.2 in
-              let n = size_back (t ∷ bs) (le (take 8 bs)) b.0 b.1 in
-              a_part (image_size (le (take 8 bs))) a.0 (drop 8 bs) (ap₂ ◌∷◌ (eqb-true t 115 y2) (field_back 8 bs h (let l = n.0 in omega arith))) a.1 n.1
-          | inr y2 ↦ let e3 = at_false _ _ _ (Ok x) y2 e2 in elim (cases_Bool (eqb t 119)) [
-            | inl y3 ↦
-                let a = then_back _ _ x (at_true _ _ _ (Ok x) y3 e3) in
-                let b = then_back _ _ x a.2 in
-                let n = data_view p t bs b.0 h b.1 in
-                a_part (data_at b.0.0 n.0) a.0 n.1 (ap₂ ◌∷◌ (eqb-true t 119 y3) n.2) a.1 n.3
-            | inr y3 ↦ let e4 = at_false _ _ _ (Ok x) y3 e3 in elim (cases_Bool (eqb t 122)) [
-              | inl y4 ↦
-                  let a = then_back _ _ x (at_true _ _ _ (Ok x) y4 e4) in
-                  let b = then_back _ _ x a.2 in
-                  let n = range_view p t bs b.0 h b.1 in
-                  a_part (zeros_at b.0.0 b.0.1) a.0 (drop 8 (drop 8 bs)) (ap₂ ◌∷◌ (eqb-true t 122 y4) n.0) a.1 n.1
-              | inr y4 ↦ let e5 = at_false _ _ _ (Ok x) y4 e4 in elim (cases_Bool (eqb t 101)) [
-                | inl y5 ↦
-                    let a = then_back _ _ x (at_true _ _ _ (Ok x) y5 e5) in
-                    an_end a.0 bs (ap (λ u. u ∷ bs) (eqb-true t 101 y5)) a.1
-                | inr y5 ↦ let e6 = at_false _ _ _ (Ok x) y5 e5 in let z : ◌≡◌ {A = ℕ} 0 1 = cc in absurd (omega arith)
-              ]
-            ]
-          ]
-        ]
-      ]
+-- one test of a tag, and a record that the rule of its tag let pass
+tag_view : {C : Type 0} (t u : ℕ) (a b o : Result (Record × Pos) Cause) → (t ≡ u → a ≡ o → C) → (b ≡ o → C) → cond (eqb t u) a b ≡ o → C
+tag_view t u a b o f g h =
+    elim (cases_Bool (eqb t u)) [
+      | inl y ↦ f (eqb-true t u y) (at_true (eqb t u) a b o y h)
+      | inr y ↦ g (at_false (eqb t u) a b o y h)
     ]
+
+ruled : {A : Type 0} (u : Result State Cause) (r : Result A Cause) (f : State → A → Record × Pos) (x : Record × Pos) → and_then u (λ s. and_then r (λ y. Ok (f s y))) ≡ Ok x
+    → (s : State) × (u ≡ Ok s) × (y : A) × (r ≡ Ok y)
+ruled u r f x h =
+    let a = then_back u _ x h in
+    let b = then_back r _ x a.2 in
+    (a.0, a.1, b.0, b.1)
+
+view_tag : (p : Pos) (t : ℕ) (bs : List ℕ) (x : Record × Pos) → Bytes bs → record_of p (t ∷ bs) t ≡ Ok x → View p (t ∷ bs)
+view_tag p t bs x h =
+    tag_view t 102 _ _ (Ok x)
+    (λ y e.
+    let a = ruled (from_rule p.state) (name_length_of (t ∷ bs)) _ x e in
+    let n = name_view t bs a.2 h a.3 in
+    a_part (from_name n.0) a.0 n.1 (ap₂ ◌∷◌ y n.2) a.1 n.3)
+    (tag_view t 116 _ _ (Ok x)
+    (λ y e.
+    let a = ruled (to_rule p.state) (name_length_of (t ∷ bs)) _ x e in
+    let n = name_view t bs a.2 h a.3 in
+    a_part (to_name n.0) a.0 n.1 (ap₂ ◌∷◌ y n.2) a.1 n.3)
+    (tag_view t 115 _ _ (Ok x)
+    (λ y e.
+    let a = ruled (size_rule p.state) (size_of (t ∷ bs)) _ x e in
+    let n = size_back (t ∷ bs) (le (take 8 bs)) a.2 a.3 in
+    a_part (image_size (le (take 8 bs))) a.0 (drop 8 bs) (ap₂ ◌∷◌ y (field_back 8 bs h (let l = n.0 in omega arith))) a.1 n.1)
+    (tag_view t 119 _ _ (Ok x)
+    (λ y e.
+    let a = ruled (late_rule p.state) (payload_range_of p (t ∷ bs)) _ x e in
+    let n = data_view p t bs a.2 h a.3 in
+    a_part (data_at a.2.0 n.0) a.0 n.1 (ap₂ ◌∷◌ y n.2) a.1 n.3)
+    (tag_view t 122 _ _ (Ok x)
+    (λ y e.
+    let a = ruled (late_rule p.state) (data_range_of p (t ∷ bs)) _ x e in
+    let n = range_view p t bs a.2 h a.3 in
+    a_part (zeros_at a.2.0 a.2.1) a.0 (drop 8 (drop 8 bs)) (ap₂ ◌∷◌ y n.0) a.1 n.1)
+    (tag_view t 101 _ _ (Ok x)
+    (λ y e. let a = then_back _ _ x e in an_end a.0 bs (ap (λ u. u ∷ bs) y) a.1)
+    (λ e. let z : ◌≡◌ {A = ℕ} 0 1 = cc in absurd (omega arith)))))))
 
 pub view : (p : Pos) (rest : List ℕ) (x : Record × Pos) → Bytes rest → step_of p rest ≡ Ok x → View p rest
 view p [] x h e = let z : ◌≡◌ {A = ℕ} 0 1 = cc in absurd (omega arith)
 view p (t ∷ bs) x h e = view_tag p t bs x h.1 (sym (begins p t bs) ∙ e)
 
-pub before_back : (c : Content) (o : Result (List Content) Fault) (cs : List Content) → before c o ≡ Ok cs → (ds : List Content) × (o ≡ Ok ds) × (c ∷ ds ≡ cs)
+pub before_back : (c : Content) (o : Result (List Content) Fault) (cs : List Content) → record_before c o ≡ Ok cs → (ds : List Content) × (o ≡ Ok ds) × (c ∷ ds ≡ cs)
 before_back c (Ok ds) cs h = (ds, refl, cc)
 before_back c (Err f) cs h = let z : ◌≡◌ {A = ℕ} 0 1 = cc in absurd (omega arith)
 
@@ -214,7 +219,7 @@ abbrev Stepped : Pos → List ℕ → Type 0
 Stepped p rest = (x : Record × Pos) × (step_of p rest ≡ Ok x)
 
 step_was : (k total : ℕ) (p : Pos) (rest : List ℕ) (cs : List Content) (o : Result (Record × Pos) Cause) → step_of p rest ≡ o
-    → onward (reads k total) total p.place rest o ≡ Ok cs → Stepped p rest
+    → reads_after (reads k total) total p.place rest o ≡ Ok cs → Stepped p rest
 step_was k total p rest cs (Ok x) e h = (x, e)
 step_was k total p rest cs (Err c) e h = let z : ◌≡◌ {A = ℕ} 0 1 = cc in absurd (omega arith)
 
@@ -222,29 +227,29 @@ end_back : (k total : ℕ) (p : Pos) (s : State) (more : List ℕ) (cs : List Co
     → reads (suc k) total p (101 ∷ more) ≡ Ok cs → (more ≡ []) × ([] ≡ cs)
 end_back k total p s more cs u t h =
     let q : Pos = record { place = p.place + 1; state = s; size = p.size; end = p.end; count = p.count } in
-    let g = ap (onward (reads k total) total p.place (101 ∷ more)) (begins p 101 more ∙ then_ok _ s _ u) in
+    let g = ap (reads_after (reads k total) total p.place (101 ∷ more)) (begins p 101 more ∙ then_ok _ s _ u) in
     let a = passes (ltb (p.place + 1) total) _ _ cs (sym g ∙ h) in
     let l = ltb-false (p.place + 1) total a.0 in
     (nil_from_length more (omega arith), let e = a.1 in cc)
 
 -- what is accepted was written
 pub list_back : (k total : ℕ) (p : Pos) (rest : List ℕ) (cs : List Content) → p.size ≤ 2 ^ 40 → Bytes rest → total ≡ p.place + length rest
-    → reads k total p rest ≡ Ok cs → (rest ≡ encodings cs ++ (101 ∷ [])) × WellFormed p cs
+    → reads k total p rest ≡ Ok cs → (rest ≡ records_bytes cs ++ (101 ∷ [])) × WellFormed p cs
 list_back zero total p rest cs z b t h = let y : ◌≡◌ {A = ℕ} 0 1 = cc in absurd (omega arith)
 list_back (suc k) total p rest cs z b t h =
     let x = step_was k total p rest cs (step_of p rest) refl h in
-    let P : List Content → Type 0 = λ ds. (rest ≡ encodings ds ++ (101 ∷ [])) × WellFormed p ds in
+    let P : List Content → Type 0 = λ ds. (rest ≡ records_bytes ds ++ (101 ∷ [])) × WellFormed p ds in
     elim (view p rest x.0 b x.1) [
       | a_part c s more r u g ↦
           let f = step_forth p c s more z u g in
           let i = sym (read_forth k total p c s more f) ∙ ap (reads (suc k) total p) (sym r) ∙ h in
-          let d = before_back c (reads k total (moved p c s) more) cs i in
-          let m = ap (drop ((moved p c s).place - p.place)) r ∙ behind p c s more in
-          let bm = subst Bytes m (All-drop (λ v. v < 256) ((moved p c s).place - p.place) rest b) in
-          let l = ap length r ∙ length-append (encoded c) more in
+          let d = before_back c (reads k total (pos_past p c s) more) cs i in
+          let m = ap (drop ((pos_past p c s).place - p.place)) r ∙ behind p c s more in
+          let bm = subst Bytes m (All-drop (λ v. v < 256) ((pos_past p c s).place - p.place) rest b) in
+          let l = ap length r ∙ length-append (record_bytes c) more in
           let pm = place_moved p c s in
-          let ih = list_back k total (moved p c s) more d.0 (size_stays p c s z g) bm (omega arith) d.1 in
-          subst P d.2 (r ∙ ap (λ v. encoded c ++ v) ih.0 ∙ sym (append_assoc (encoded c) (encodings d.0) (101 ∷ [])), (s, u, g, ih.1))
+          let ih = list_back k total (pos_past p c s) more d.0 (size_stays p c s z g) bm (omega arith) d.1 in
+          subst P d.2 (r ∙ ap (λ v. record_bytes c ++ v) ih.0 ∙ sym (append_assoc (record_bytes c) (records_bytes d.0) (101 ∷ [])), (s, u, g, ih.1))
       | an_end s more r u ↦
           let l = ap length r in
           let i = end_back k total p s more cs u (omega arith) (ap (reads (suc k) total p) (sym r) ∙ h) in

@@ -1,12 +1,13 @@
--- How a record that a step read lies in the bytes that were left: it is behind the old place, and all there.
+-- How a record that a step read lies in the bytes that were left: it is behind the old place, and
+-- all there.
 use Rattle.std.proofs.Common.{◌≡◌, ℕ, ◌+◌, ◌<◌, ◌≤◌, cond, eqb, ltb, List, length, slice_index, Ok, Err, Result, refl, ap, subst, inl, inr, arith}
 use Rattle.std.proofs.lemmas.Bool.{ltb-false, cases_Bool}
 use Rattle.stream.specs.Bytes.{le, field}
 use Rattle.stream.specs.Rule.{State, from_rule, to_rule, size_rule, late_rule}
-use Rattle.stream.specs.Steps.{Pos, span, name_by, name_of, size_of, range_by, data_range_of, payload_of, from_step, to_step, size_step, data_step, zeros_step, end_step, record_of, step_of, Lies}
+use Rattle.stream.specs.Steps.{Pos, span, name_by, name_length_of, size_of, range_by, data_range_of, payload_range_of, from_step, to_step, size_step, data_step, zeros_step, end_step, record_of, step_of, Lies}
 use Rattle.stream.specs.declared.kinds.Record.{Record}
 use Rattle.stream.specs.declared.kinds.Record.TheVariants.{From, To, Size, Write, Zero, End}
-use Rattle.fault.specs.Fault.{then}
+use Rattle.fault.specs.Fault.{and_then}
 use Rattle.fault.specs.declared.kinds.Cause.{Cause}
 use Rattle.fault.specs.declared.kinds.Cause.TheVariants as causes
 use Rattle.stream.proofs.Back.{passes, name_back, range_back, then_back, ok_same, at_true, at_false}
@@ -19,7 +20,7 @@ name_fits rest n m h = let a = name_back rest n m h in let l = a.0 in let e = a.
 range_fits : (p : Pos) (rest : List ℕ) (o n : ℕ) (q : ℕ × ℕ) → range_by p rest o n ≡ Ok q → p.count < 512
 range_fits p rest o n q h = (range_back p rest o n q h).1.0
 
-payload_fits : (p : Pos) (rest : List ℕ) (q : ℕ × ℕ) → payload_of p rest ≡ Ok q → (17 + q.1 ≤ length rest) × (p.count < 512)
+payload_fits : (p : Pos) (rest : List ℕ) (q : ℕ × ℕ) → payload_range_of p rest ≡ Ok q → (17 + q.1 ≤ length rest) × (p.count < 512)
 payload_fits p rest q h =
     let u = then_back (data_range_of p rest) (λ q. cond (ltb (length rest) (17 + q.1)) (Err causes.Cut) (Ok q)) q h in
     let v = passes _ _ _ q u.2 in
@@ -38,13 +39,13 @@ module _ (p : Pos) (rest : List ℕ) where
   from_lies : (s : State) (x : Record × Pos) → from_step p rest s ≡ Ok x → LiesSo x
   from_lies s x e =
       let G : ℕ → Result (Record × Pos) Cause = λ n. Ok (From (span (p.place + 5) n), record { place = p.place + 5 + n; state = s; size = p.size; end = p.end; count = p.count }) in
-      let b = then_back (name_of rest) G x e in
+      let b = then_back (name_length_of rest) G x e in
       lies_back _ x b.2 (refl, name_fits rest (le (field rest 1 4)) b.0 b.1, refl, refl)
 
   to_lies : (s : State) (x : Record × Pos) → to_step p rest s ≡ Ok x → LiesSo x
   to_lies s x e =
       let G : ℕ → Result (Record × Pos) Cause = λ n. Ok (To (span (p.place + 5) n), record { place = p.place + 5 + n; state = s; size = p.size; end = p.end; count = p.count }) in
-      let b = then_back (name_of rest) G x e in
+      let b = then_back (name_length_of rest) G x e in
       lies_back _ x b.2 (refl, name_fits rest (le (field rest 1 4)) b.0 b.1, refl, refl)
 
   size_lies : (s : State) (x : Record × Pos) → size_step p rest s ≡ Ok x → LiesSo x
@@ -56,7 +57,7 @@ module _ (p : Pos) (rest : List ℕ) where
   data_lies : (s : State) (x : Record × Pos) → data_step p rest s ≡ Ok x → LiesSo x
   data_lies s x e =
       let G : ℕ × ℕ → Result (Record × Pos) Cause = λ q. Ok (Write q.0 q.1 (p.place + 17), record { place = p.place + 17 + q.1; state = s; size = p.size; end = q.0 + q.1; count = p.count + 1 }) in
-      let b = then_back (payload_of p rest) G x e in
+      let b = then_back (payload_range_of p rest) G x e in
       let f = payload_fits p rest b.0 b.1 in
       lies_back _ x b.2 (refl, f.0, refl, refl, f.1)
 
@@ -70,7 +71,7 @@ module _ (p : Pos) (rest : List ℕ) where
   end_lies s x e = lies_back (End, record { place = p.place + 1; state = s; size = p.size; end = p.end; count = p.count }) x e refl
 
   -- by the tag
-  ruled : (r : Result State Cause) (f : State → Result (Record × Pos) Cause) (x : Record × Pos) → ((s : State) → f s ≡ Ok x → LiesSo x) → then r f ≡ Ok x → LiesSo x
+  ruled : (r : Result State Cause) (f : State → Result (Record × Pos) Cause) (x : Record × Pos) → ((s : State) → f s ≡ Ok x → LiesSo x) → and_then r f ≡ Ok x → LiesSo x
   ruled r f x g e = let a = then_back r f x e in g a.0 a.2
 
   record_lies : (t : ℕ) (x : Record × Pos) → record_of p rest t ≡ Ok x → LiesSo x

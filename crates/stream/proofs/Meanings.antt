@@ -16,34 +16,34 @@ use Rattle.overlay.specs.Runs as runs
 use Rattle.overlay.proofs.Painted.{over_none, run_inside, run_before, run_after}
 use Rattle.overlay.proofs.Bridge.{counted_same}
 use Rattle.stream.specs.Bytes.{field}
-use Rattle.stream.specs.Records.{Content, from_name, to_name, image_size, data_at, zeros_at, encoded, encodings, encoded_stream, header, size_in}
-use Rattle.stream.specs.Gathered.{Gathered, gathered, none, zero_run, payload_run}
-use Rattle.stream.specs.Meaning.{Cell, zeroed, written, within, laid, cells}
+use Rattle.stream.specs.Records.{Content, from_name, to_name, image_size, data_at, zeros_at, record_bytes, records_bytes, stream_bytes, header, size_in}
+use Rattle.stream.specs.Gathered.{Gathered, with_records, nothing_gathered, zero_run, payload_run}
+use Rattle.stream.specs.Meaning.{Cell, zeroed, written, state_within, records_state, cells}
 use Rattle.stream.specs.Parts.{cell_of, parts_cells, PayloadsIn, StandsFor}
-use Rattle.stream.specs.Sound.{GoodMeta, Rising, Sound}
+use Rattle.stream.specs.Sound.{GoodMeta, RisingRecords, Sound}
 use Rattle.stream.proofs.Told.{field_behind, here, next, on, size_told}
 
 -- a state inside its range, and outside of it
-pub within_in : (o n p : ℕ) (s : Cell) → o ≤ p → p < o + n → within o n p s ≡ Some s
+pub within_in : (o n p : ℕ) (s : Cell) → o ≤ p → p < o + n → state_within o n p s ≡ Some s
 within_in o n p s h l = cond-true (leb o p && ltb p (o + n)) (Some s) None (and_from (leb o p) (ltb p (o + n)) (le-leb o p h) (lt-ltb p (o + n) l))
 
-within_before : (o n p : ℕ) (s : Cell) → p < o → within o n p s ≡ None
+within_before : (o n p : ℕ) (s : Cell) → p < o → state_within o n p s ≡ None
 within_before o n p s h = cond-false (leb o p && ltb p (o + n)) (Some s) None (and_left (leb o p) (ltb p (o + n)) (lt-leb o p h))
 
-within_after : (o n p : ℕ) (s : Cell) → o + n ≤ p → within o n p s ≡ None
+within_after : (o n p : ℕ) (s : Cell) → o + n ≤ p → state_within o n p s ≡ None
 within_after o n p s h = cond-false (leb o p && ltb p (o + n)) (Some s) None (and_right (leb o p) (ltb p (o + n)) (le-ltb p (o + n) h))
 
 -- the runs of records from a place on
 abbrev pub runs_of : Side → ℕ → List Content → List (Run PayloadMark)
 runs_of side place [] = []
-runs_of side place (from_name name ∷ cs) = runs_of side (place + length (encoded (from_name name))) cs
-runs_of side place (to_name name ∷ cs) = runs_of side (place + length (encoded (to_name name))) cs
-runs_of side place (image_size n ∷ cs) = runs_of side (place + length (encoded (image_size n))) cs
-runs_of side place (data_at o bytes ∷ cs) = payload_run side o (length bytes) (place + 17) ∷ runs_of side (place + length (encoded (data_at o bytes))) cs
-runs_of side place (zeros_at o n ∷ cs) = zero_run o n ∷ runs_of side (place + length (encoded (zeros_at o n))) cs
+runs_of side place (from_name name ∷ cs) = runs_of side (place + length (record_bytes (from_name name))) cs
+runs_of side place (to_name name ∷ cs) = runs_of side (place + length (record_bytes (to_name name))) cs
+runs_of side place (image_size n ∷ cs) = runs_of side (place + length (record_bytes (image_size n))) cs
+runs_of side place (data_at o bytes ∷ cs) = payload_run side o (length bytes) (place + 17) ∷ runs_of side (place + length (record_bytes (data_at o bytes))) cs
+runs_of side place (zeros_at o n ∷ cs) = zero_run o n ∷ runs_of side (place + length (record_bytes (zeros_at o n))) cs
 
 -- these are what is gathered
-gathered_runs : (side : Side) (cs : List Content) (g : Gathered) (place : ℕ) → (gathered side g place cs).runs ≡ g.runs ++ runs_of side place cs
+gathered_runs : (side : Side) (cs : List Content) (g : Gathered) (place : ℕ) → (with_records side g place cs).runs ≡ g.runs ++ runs_of side place cs
 gathered_runs side [] g place = sym (append-nil g.runs)
 gathered_runs side (from_name name ∷ cs) g place = gathered_runs side cs _ _
 gathered_runs side (to_name name ∷ cs) g place = gathered_runs side cs _ _
@@ -52,7 +52,7 @@ gathered_runs side (data_at o bytes ∷ cs) g place = gathered_runs side cs _ _ 
 gathered_runs side (zeros_at o n ∷ cs) g place = gathered_runs side cs _ _ ∙ append_assoc g.runs (zero_run o n ∷ []) _
 
 -- they rise as the records do
-runs_rise : (side : Side) (cs : List Content) (size end place : ℕ) → end ≤ size → Rising size end cs → runs.Rising end (runs_of side place cs) size
+runs_rise : (side : Side) (cs : List Content) (size end place : ℕ) → end ≤ size → RisingRecords size end cs → runs.Rising end (runs_of side place cs) size
 runs_rise side [] size end place h r = h
 runs_rise side (from_name name ∷ cs) size end place h r = absurd r
 runs_rise side (to_name name ∷ cs) size end place h r = absurd r
@@ -62,14 +62,14 @@ runs_rise side (zeros_at o n ∷ cs) size end place h r = (r.0, r.1, runs_rise s
 
 runs_few : (side : Side) (cs : List Content) (place : ℕ) → length (runs_of side place cs) ≤ length cs
 runs_few side [] place = omega arith
-runs_few side (from_name name ∷ cs) place = let i = runs_few side cs (place + length (encoded (from_name name))) in omega arith
-runs_few side (to_name name ∷ cs) place = let i = runs_few side cs (place + length (encoded (to_name name))) in omega arith
-runs_few side (image_size n ∷ cs) place = let i = runs_few side cs (place + length (encoded (image_size n))) in omega arith
-runs_few side (data_at o bytes ∷ cs) place = let i = runs_few side cs (place + length (encoded (data_at o bytes))) in omega arith
-runs_few side (zeros_at o n ∷ cs) place = let i = runs_few side cs (place + length (encoded (zeros_at o n))) in omega arith
+runs_few side (from_name name ∷ cs) place = let i = runs_few side cs (place + length (record_bytes (from_name name))) in omega arith
+runs_few side (to_name name ∷ cs) place = let i = runs_few side cs (place + length (record_bytes (to_name name))) in omega arith
+runs_few side (image_size n ∷ cs) place = let i = runs_few side cs (place + length (record_bytes (image_size n))) in omega arith
+runs_few side (data_at o bytes ∷ cs) place = let i = runs_few side cs (place + length (record_bytes (data_at o bytes))) in omega arith
+runs_few side (zeros_at o n ∷ cs) place = let i = runs_few side cs (place + length (record_bytes (zeros_at o n))) in omega arith
 
 -- before the runs no record gives a position anything
-laid_before : (cs : List Content) (size end p : ℕ) → Rising size end cs → p < end → laid cs p ≡ None
+laid_before : (cs : List Content) (size end p : ℕ) → RisingRecords size end cs → p < end → records_state cs p ≡ None
 laid_before [] size end p r h = refl
 laid_before (from_name name ∷ cs) size end p r h = absurd r
 laid_before (to_name name ∷ cs) size end p r h = absurd r
@@ -96,18 +96,18 @@ decides f m run all rest state a b e = ap (λ t. option_map f (over t all)) a �
 
 module _ (side : Side) (xs tail earlier later : List ℕ) (hand : stream_of earlier later side ≡ xs) (small : length xs < 2 ^ 64) where
   -- the byte of a written record, by the mark of its run
-  payload_byte : (pre : List ℕ) (o : ℕ) (bytes : List ℕ) (cs : List Content) (place k : ℕ) → xs ≡ pre ++ (encodings (data_at o bytes ∷ cs) ++ tail) → place ≡ length pre
+  payload_byte : (pre : List ℕ) (o : ℕ) (bytes : List ℕ) (cs : List Content) (place k : ℕ) → xs ≡ pre ++ (records_bytes (data_at o bytes ∷ cs) ++ tail) → place ≡ length pre
       → k < length bytes → get_or bytes k 0 ≡ get_or (stream_of earlier later side) (place_moves (place + 17) k) 0
   payload_byte pre o bytes cs place k e l h =
       let c = data_at o bytes in
       let n = length bytes in
-      let f : field xs (place + 17) n ≡ bytes = field_behind xs pre _ place 17 n (here side xs tail pre c cs e) l ∙ take_at bytes (encodings cs ++ tail) n refl in
-      let g = ap length (here side xs tail pre c cs e) ∙ length-append pre (encoded c ++ (encodings cs ++ tail)) in
-      let i = length-append (encoded c) (encodings cs ++ tail) in
+      let f : field xs (place + 17) n ≡ bytes = field_behind xs pre _ place 17 n (here side xs tail pre c cs e) l ∙ take_at bytes (records_bytes cs ++ tail) n refl in
+      let g = ap length (here side xs tail pre c cs e) ∙ length-append pre (record_bytes c ++ (records_bytes cs ++ tail)) in
+      let i = length-append (record_bytes c) (records_bytes cs ++ tail) in
       ap (λ t. get_or t k 0) (sym f) ∙ byte_there xs (place + 17) n k small (omega arith) h ∙ ap (λ t. get_or t (place_moves (place + 17) k) 0) (sym hand)
 
-  runs_laid : (cs : List Content) (pre : List ℕ) (place size end : ℕ) → xs ≡ pre ++ (encodings cs ++ tail) → place ≡ length pre → Rising size end cs → (p : ℕ)
-      → option_map (cell_of earlier later) (at payload_moves (runs_of side place cs) p) ≡ laid cs p
+  runs_laid : (cs : List Content) (pre : List ℕ) (place size end : ℕ) → xs ≡ pre ++ (records_bytes cs ++ tail) → place ≡ length pre → RisingRecords size end cs → (p : ℕ)
+      → option_map (cell_of earlier later) (at payload_moves (runs_of side place cs) p) ≡ records_state cs p
   runs_laid [] pre place size end e l r p = refl
   runs_laid (from_name name ∷ cs) pre place size end e l r p = absurd r
   runs_laid (to_name name ∷ cs) pre place size end e l r p = absurd r
@@ -116,7 +116,7 @@ module _ (side : Side) (xs tail earlier later : List ℕ) (hand : stream_of earl
       let c = data_at o bytes in
       let n = length bytes in
       let run = payload_run side o n (place + 17) in
-      let ih = runs_laid cs (pre ++ encoded c) _ size (o + n) (next side xs tail pre c cs e) (on side xs tail pre c place l) r.3 p in
+      let ih = runs_laid cs (pre ++ record_bytes c) _ size (o + n) (next side xs tail pre c cs e) (on side xs tail pre c place l) r.3 p in
       elim (cases_lt p o) [
         | inl a ↦ passed (cell_of earlier later) _ _ _ _ (run_before payload_moves run p a) (within_before o n p _ a) ih
         | inr a ↦ elim (cases_lt p (o + n)) [
@@ -128,7 +128,7 @@ module _ (side : Side) (xs tail earlier later : List ℕ) (hand : stream_of earl
   runs_laid (zeros_at o n ∷ cs) pre place size end e l r p =
       let c = zeros_at o n in
       let run = zero_run o n in
-      let ih = runs_laid cs (pre ++ encoded c) _ size (o + n) (next side xs tail pre c cs e) (on side xs tail pre c place l) r.3 p in
+      let ih = runs_laid cs (pre ++ record_bytes c) _ size (o + n) (next side xs tail pre c cs e) (on side xs tail pre c place l) r.3 p in
       elim (cases_lt p o) [
         | inl a ↦ passed (cell_of earlier later) _ _ _ _ (run_before payload_moves run p a) (within_before o n p zeroed a) ih
         | inr a ↦ elim (cases_lt p (o + n)) [
@@ -138,30 +138,30 @@ module _ (side : Side) (xs tail earlier later : List ℕ) (hand : stream_of earl
       ]
 
 -- the payload of each run lies in the stream
-runs_inside : (side : Side) (xs tail : List ℕ) (cs : List Content) (pre : List ℕ) (place size end : ℕ) → xs ≡ pre ++ (encodings cs ++ tail) → place ≡ length pre
-    → Rising size end cs → PayloadsIn side xs (runs_of side place cs)
+runs_inside : (side : Side) (xs tail : List ℕ) (cs : List Content) (pre : List ℕ) (place size end : ℕ) → xs ≡ pre ++ (records_bytes cs ++ tail) → place ≡ length pre
+    → RisingRecords size end cs → PayloadsIn side xs (runs_of side place cs)
 runs_inside side xs tail [] pre place size end e l r = tt
 runs_inside side xs tail (from_name name ∷ cs) pre place size end e l r = absurd r
 runs_inside side xs tail (to_name name ∷ cs) pre place size end e l r = absurd r
 runs_inside side xs tail (image_size n ∷ cs) pre place size end e l r = absurd r
 runs_inside side xs tail (data_at o bytes ∷ cs) pre place size end e l r =
     let c = data_at o bytes in
-    let g = ap length (here side xs tail pre c cs e) ∙ length-append pre (encoded c ++ (encodings cs ++ tail)) in
-    let i = length-append (encoded c) (encodings cs ++ tail) in
-    ((refl, omega arith), runs_inside side xs tail cs (pre ++ encoded c) _ size (o + length bytes) (next side xs tail pre c cs e) (on side xs tail pre c place l) r.3)
+    let g = ap length (here side xs tail pre c cs e) ∙ length-append pre (record_bytes c ++ (records_bytes cs ++ tail)) in
+    let i = length-append (record_bytes c) (records_bytes cs ++ tail) in
+    ((refl, omega arith), runs_inside side xs tail cs (pre ++ record_bytes c) _ size (o + length bytes) (next side xs tail pre c cs e) (on side xs tail pre c place l) r.3)
 runs_inside side xs tail (zeros_at o n ∷ cs) pre place size end e l r =
     let c = zeros_at o n in
-    (tt, runs_inside side xs tail cs (pre ++ encoded c) _ size (o + n) (next side xs tail pre c cs e) (on side xs tail pre c place l) r.3)
+    (tt, runs_inside side xs tail cs (pre ++ record_bytes c) _ size (o + n) (next side xs tail pre c cs e) (on side xs tail pre c place l) r.3)
 
-pub encodings_append : (ms ds : List Content) → encodings (ms ++ ds) ≡ encodings ms ++ encodings ds
+pub encodings_append : (ms ds : List Content) → records_bytes (ms ++ ds) ≡ records_bytes ms ++ records_bytes ds
 encodings_append [] ds = refl
-encodings_append (c ∷ ms) ds = ap (λ t. encoded c ++ t) (encodings_append ms ds) ∙ sym (append_assoc (encoded c) (encodings ms) (encodings ds))
+encodings_append (c ∷ ms) ds = ap (λ t. record_bytes c ++ t) (encodings_append ms ds) ∙ sym (append_assoc (record_bytes c) (records_bytes ms) (records_bytes ds))
 
 -- metadata has no runs, gives no position a state, and has the size
-place_on : (place : ℕ) (c : Content) (ms : List Content) → (place + length (encoded c)) + length (encodings ms) ≡ place + length (encodings (c ∷ ms))
-place_on place c ms = omega (arith, length-append (encoded c) (encodings ms))
+place_on : (place : ℕ) (c : Content) (ms : List Content) → (place + length (record_bytes c)) + length (records_bytes ms) ≡ place + length (records_bytes (c ∷ ms))
+place_on place c ms = omega (arith, length-append (record_bytes c) (records_bytes ms))
 
-runs_skip : (side : Side) (ms ds : List Content) (place : ℕ) → AllByRecursion GoodMeta ms → runs_of side place (ms ++ ds) ≡ runs_of side (place + length (encodings ms)) ds
+runs_skip : (side : Side) (ms ds : List Content) (place : ℕ) → AllByRecursion GoodMeta ms → runs_of side place (ms ++ ds) ≡ runs_of side (place + length (records_bytes ms)) ds
 runs_skip side [] ds place g = ap (λ v. runs_of side v ds) (omega arith)
 runs_skip side (from_name name ∷ ms) ds place g = runs_skip side ms ds _ g.1 ∙ ap (λ v. runs_of side v ds) (place_on place (from_name name) ms)
 runs_skip side (to_name name ∷ ms) ds place g = runs_skip side ms ds _ g.1 ∙ ap (λ v. runs_of side v ds) (place_on place (to_name name) ms)
@@ -169,15 +169,15 @@ runs_skip side (image_size n ∷ ms) ds place g = runs_skip side ms ds _ g.1 ∙
 runs_skip side (data_at o bytes ∷ ms) ds place g = absurd g.0
 runs_skip side (zeros_at o n ∷ ms) ds place g = absurd g.0
 
-laid_skip : (ms ds : List Content) (p : ℕ) → AllByRecursion GoodMeta ms → laid (ms ++ ds) p ≡ laid ds p
+laid_skip : (ms ds : List Content) (p : ℕ) → AllByRecursion GoodMeta ms → records_state (ms ++ ds) p ≡ records_state ds p
 laid_skip [] ds p g = refl
-laid_skip (from_name name ∷ ms) ds p g = over_none (laid (ms ++ ds) p) ∙ laid_skip ms ds p g.1
-laid_skip (to_name name ∷ ms) ds p g = over_none (laid (ms ++ ds) p) ∙ laid_skip ms ds p g.1
-laid_skip (image_size n ∷ ms) ds p g = over_none (laid (ms ++ ds) p) ∙ laid_skip ms ds p g.1
+laid_skip (from_name name ∷ ms) ds p g = over_none (records_state (ms ++ ds) p) ∙ laid_skip ms ds p g.1
+laid_skip (to_name name ∷ ms) ds p g = over_none (records_state (ms ++ ds) p) ∙ laid_skip ms ds p g.1
+laid_skip (image_size n ∷ ms) ds p g = over_none (records_state (ms ++ ds) p) ∙ laid_skip ms ds p g.1
 laid_skip (data_at o bytes ∷ ms) ds p g = absurd g.0
 laid_skip (zeros_at o n ∷ ms) ds p g = absurd g.0
 
-pub size_kept : (ds : List Content) (n size end : ℕ) → Rising size end ds → size_in n ds ≡ n
+pub size_kept : (ds : List Content) (n size end : ℕ) → RisingRecords size end ds → size_in n ds ≡ n
 size_kept [] n size end r = refl
 size_kept (from_name name ∷ ds) n size end r = absurd r
 size_kept (to_name name ∷ ds) n size end r = absurd r
@@ -185,7 +185,7 @@ size_kept (image_size m ∷ ds) n size end r = absurd r
 size_kept (data_at o bytes ∷ ds) n size end r = size_kept ds n size (o + length bytes) r.3
 size_kept (zeros_at o m ∷ ds) n size end r = size_kept ds n size (o + m) r.3
 
-pub size_first : (ms ds : List Content) (n size end : ℕ) → AllByRecursion GoodMeta ms → Rising size end ds → size_in n (ms ++ ds) ≡ size_in n ms
+pub size_first : (ms ds : List Content) (n size end : ℕ) → AllByRecursion GoodMeta ms → RisingRecords size end ds → size_in n (ms ++ ds) ≡ size_in n ms
 size_first [] ds n size end g r = size_kept ds n size end r
 size_first (from_name name ∷ ms) ds n size end g r = size_first ms ds n size end g.1 r
 size_first (to_name name ∷ ms) ds n size end g r = size_first ms ds n size end g.1 r
@@ -202,28 +202,28 @@ size_small (data_at o bytes ∷ ms) n h g = absurd g.0
 size_small (zeros_at o m ∷ ms) n h g = absurd g.0
 
 -- the runs of data records behind metadata
-data_stands : (side : Side) (ms ds : List Content) (xs : List ℕ) → AllByRecursion GoodMeta ms → Rising (size_in 0 ms) 0 ds → length ds ≤ 512
-    → xs ≡ encoded_stream (ms ++ ds) → length xs < 2 ^ 64
-    → StandsFor side xs (ms ++ ds) (gathered side none 12 (ms ++ ds)).runs (gathered side none 12 (ms ++ ds)).size
+data_stands : (side : Side) (ms ds : List Content) (xs : List ℕ) → AllByRecursion GoodMeta ms → RisingRecords (size_in 0 ms) 0 ds → length ds ≤ 512
+    → xs ≡ stream_bytes (ms ++ ds) → length xs < 2 ^ 64
+    → StandsFor side xs (ms ++ ds) (with_records side nothing_gathered 12 (ms ++ ds)).runs (with_records side nothing_gathered 12 (ms ++ ds)).size
 unfolding cells
 data_stands side ms ds xs g r few e small =
-    let place = 12 + length (encodings ms) in
+    let place = 12 + length (records_bytes ms) in
     let size = size_in 0 ms in
-    let pre = header ++ encodings ms in
-    let lp : place ≡ length pre = omega (arith, length-append header (encodings ms)) in
+    let pre = header ++ records_bytes ms in
+    let lp : place ≡ length pre = omega (arith, length-append header (records_bytes ms)) in
     let rs = runs_of side place ds in
-    let er : (gathered side none 12 (ms ++ ds)).runs ≡ rs = gathered_runs side (ms ++ ds) none 12 ∙ runs_skip side ms ds 12 g in
-    let es : (gathered side none 12 (ms ++ ds)).size ≡ size = size_told side (ms ++ ds) 12 none ∙ size_first ms ds 0 size 0 g r in
+    let er : (with_records side nothing_gathered 12 (ms ++ ds)).runs ≡ rs = gathered_runs side (ms ++ ds) nothing_gathered 12 ∙ runs_skip side ms ds 12 g in
+    let es : (with_records side nothing_gathered 12 (ms ++ ds)).size ≡ size = size_told side (ms ++ ds) 12 nothing_gathered ∙ size_first ms ds 0 size 0 g r in
     let sz : size_in 0 (ms ++ ds) ≡ size = size_first ms ds 0 size 0 g r in
     let tail : List ℕ = 101 ∷ [] in
-    let ex : xs ≡ pre ++ (encodings ds ++ tail) = e ∙ ap (λ t. header ++ (t ++ tail)) (encodings_append ms ds) ∙ ap (λ t. header ++ t) (append_assoc (encodings ms) (encodings ds) tail)
-    ∙ sym (append_assoc header (encodings ms) (encodings ds ++ tail)) in
+    let ex : xs ≡ pre ++ (records_bytes ds ++ tail) = e ∙ ap (λ t. header ++ (t ++ tail)) (encodings_append ms ds) ∙ ap (λ t. header ++ t) (append_assoc (records_bytes ms) (records_bytes ds) tail)
+    ∙ sym (append_assoc header (records_bytes ms) (records_bytes ds ++ tail)) in
     let rise = runs_rise side ds size 0 place (omega arith) r in
     let means : (earlier later : List ℕ) → stream_of earlier later side ≡ xs → parts_cells earlier later rs size ≡ cells (ms ++ ds) =
     λ earlier later hand. map-map (option_map (cell_of earlier later)) (at payload_moves rs) (range_with_len 0 size)
-    ∙ counted_same (λ p. option_map (cell_of earlier later) (at payload_moves rs p)) (laid (ms ++ ds)) size
+    ∙ counted_same (λ p. option_map (cell_of earlier later) (at payload_moves rs p)) (records_state (ms ++ ds)) size
     (λ p l. runs_laid side xs tail earlier later hand small ds pre place size 0 ex lp r p ∙ sym (laid_skip ms ds p g))
-    ∙ ap (λ n. map (laid (ms ++ ds)) (range_with_len 0 n)) (sym sz) in
+    ∙ ap (λ n. map (records_state (ms ++ ds)) (range_with_len 0 n)) (sym sz) in
     let all : StandsFor side xs (ms ++ ds) rs size = record {
       rising = rise;
       inside = runs_inside side xs tail ds pre place size 0 ex lp r;
@@ -232,11 +232,11 @@ data_stands side ms ds xs g r few e small =
       means = means;
     } in
     let P : List (Run PayloadMark) → Type 0 = λ v. StandsFor side xs (ms ++ ds) v size in
-    let Q : ℕ → Type 0 = λ v. StandsFor side xs (ms ++ ds) (gathered side none 12 (ms ++ ds)).runs v in
+    let Q : ℕ → Type 0 = λ v. StandsFor side xs (ms ++ ds) (with_records side nothing_gathered 12 (ms ++ ds)).runs v in
     subst Q (sym es) (subst P (sym er) all)
 
-pub stands_for : (side : Side) (cs : List Content) (xs : List ℕ) → Sound cs → xs ≡ encoded_stream cs → length xs < 2 ^ 64
-    → StandsFor side xs cs (gathered side none 12 cs).runs (gathered side none 12 cs).size
+pub stands_for : (side : Side) (cs : List Content) (xs : List ℕ) → Sound cs → xs ≡ stream_bytes cs → length xs < 2 ^ 64
+    → StandsFor side xs cs (with_records side nothing_gathered 12 cs).runs (with_records side nothing_gathered 12 cs).size
 stands_for side cs xs s e small =
-    let P : List Content → Type 0 = λ v. StandsFor side xs v (gathered side none 12 v).runs (gathered side none 12 v).size in
-    subst P (sym s.whole) (data_stands side s.metas s.datas xs s.good s.rising s.few (e ∙ ap encoded_stream s.whole) small)
+    let P : List Content → Type 0 = λ v. StandsFor side xs v (with_records side nothing_gathered 12 v).runs (with_records side nothing_gathered 12 v).size in
+    subst P (sym s.whole) (data_stands side s.metas s.datas xs s.good s.rising s.few (e ∙ ap stream_bytes s.whole) small)

@@ -1,5 +1,6 @@
--- What a stream means: a difference, the list of the states of its positions. Rests on the records, and on overlay's marks, runs and states.
-use Rattle.std.specs.Prelude.{ℕ, ◌+◌, ◌-◌, cond, ◌&&◌, List, [], ◌∷◌, map, length, Some, None, Option, nat_le, nat_lt, slice_index}
+-- What a stream means: a difference, the list of the states of its positions. Rests on the records,
+-- and on overlay's marks, runs and states.
+use Rattle.std.specs.Prelude.{ℕ, ◌+◌, ◌-◌, if◌then◌else◌, ◌&&◌, List, [], ◌∷◌, map, length, Some, None, Option, nat_le, nat_lt, slice_index}
 use Rattle.std.specs.List.{range_with_len}
 use Rattle.std.specs.Option.{option_map}
 use Rattle.overlay.specs.declared.runs.Run.{Run}
@@ -10,32 +11,32 @@ use Rattle.overlay.specs.Runs.{runs_from}
 use Rattle.overlay.specs.States.{over}
 use Rattle.stream.specs.Records.{Content, from_name, to_name, image_size, data_at, zeros_at, size_in}
 
--- the state of a position that is not kept: zeroed, or written with a byte. A difference is a list of `Option Cell`, None where a position is
--- kept; its length is the size
+-- the state of a position that is not kept: zeroed, or written with a byte. A difference is a list
+-- of `Option Cell`, None where a position is kept; its length is the size
 pub data Cell : Type 0 where
   zeroed : Cell
   written : ℕ → Cell
 
 -- a state of the n positions from an offset on, and none elsewhere
-abbrev pub within : ℕ → ℕ → ℕ → Cell → Option Cell
-within offset n p s = cond (nat_le offset p && nat_lt p (offset + n)) (Some s) None
+abbrev pub state_within : ℕ → ℕ → ℕ → Cell → Option Cell
+state_within offset n p s = if nat_le offset p && nat_lt p (offset + n) then Some s else None
 
 -- what one record gives a position
-abbrev pub given : Content → ℕ → Option Cell
-given (from_name name) p = None
-given (to_name name) p = None
-given (image_size n) p = None
-given (data_at offset bytes) p = within offset (length bytes) p (written (slice_index bytes (p - offset)))
-given (zeros_at offset n) p = within offset n p zeroed
+abbrev pub record_state : Content → ℕ → Option Cell
+record_state (from_name name) p = None
+record_state (to_name name) p = None
+record_state (image_size n) p = None
+record_state (data_at offset bytes) p = state_within offset (length bytes) p (written (slice_index bytes (p - offset)))
+record_state (zeros_at offset n) p = state_within offset n p zeroed
 
 -- what records give a position: the one that comes later in the stream decides
-abbrev pub laid : List Content → ℕ → Option Cell
-laid [] p = None
-laid (c ∷ cs) p = over (laid cs p) (given c p)
+abbrev pub records_state : List Content → ℕ → Option Cell
+records_state [] p = None
+records_state (c ∷ cs) p = over (records_state cs p) (record_state c p)
 
 -- the difference that records mean
 unfoldable pub cells : List Content → List (Option Cell)
-cells cs = map (laid cs) (range_with_len 0 (size_in 0 cs))
+cells cs = map (records_state cs) (range_with_len 0 (size_in 0 cs))
 
 -- the kind of a state
 abbrev pub mark_of : Cell → RangeMark

@@ -1,5 +1,6 @@
--- The records of a stream with what they say, each and as a list, and their bytes: the stream format. Rests on how numbers are written.
-use Rattle.std.specs.Prelude.{ℕ, List, [], ◌∷◌, ◌++◌, length}
+-- The records of a stream with what they say, each and as a list, and their bytes: the stream
+-- format. Rests on how numbers are written.
+use Rattle.std.specs.Prelude.{ℕ, if◌then◌else◌, List, [], ◌∷◌, ◌++◌, length, codes, ◌==◌}
 use Rattle.stream.specs.Bytes.{le_bytes}
 
 -- a record of a stream with what it says
@@ -10,24 +11,32 @@ pub data Content : Type 0 where
   data_at : ℕ → List ℕ → Content
   zeros_at : ℕ → ℕ → Content
 
+-- its tag: f, t, s, w or z
+abbrev pub tag_of : Content → ℕ
+tag_of (from_name name) = 102
+tag_of (to_name name) = 116
+tag_of (image_size n) = 115
+tag_of (data_at offset bytes) = 119
+tag_of (zeros_at offset n) = 122
+
 -- its bytes
-abbrev pub encoded : Content → List ℕ
-encoded (from_name name) = 102 ∷ (le_bytes 4 (length name) ++ name)
-encoded (to_name name) = 116 ∷ (le_bytes 4 (length name) ++ name)
-encoded (image_size n) = 115 ∷ le_bytes 8 n
-encoded (data_at offset bytes) = 119 ∷ (le_bytes 8 offset ++ (le_bytes 8 (length bytes) ++ bytes))
-encoded (zeros_at offset n) = 122 ∷ (le_bytes 8 offset ++ le_bytes 8 n)
+abbrev pub record_bytes : Content → List ℕ
+record_bytes (from_name name) = 102 ∷ (le_bytes 4 (length name) ++ name)
+record_bytes (to_name name) = 116 ∷ (le_bytes 4 (length name) ++ name)
+record_bytes (image_size n) = 115 ∷ le_bytes 8 n
+record_bytes (data_at offset bytes) = 119 ∷ (le_bytes 8 offset ++ (le_bytes 8 (length bytes) ++ bytes))
+record_bytes (zeros_at offset n) = 122 ∷ (le_bytes 8 offset ++ le_bytes 8 n)
 
 -- the bytes of a list of records, and of a whole stream
-abbrev pub encodings : List Content → List ℕ
-encodings [] = []
-encodings (c ∷ cs) = encoded c ++ encodings cs
+abbrev pub records_bytes : List Content → List ℕ
+records_bytes [] = []
+records_bytes (c ∷ cs) = record_bytes c ++ records_bytes cs
 
 abbrev pub header : List ℕ
-header = 114 ∷ 98 ∷ 100 ∷ 32 ∷ 100 ∷ 105 ∷ 102 ∷ 102 ∷ 32 ∷ 118 ∷ 49 ∷ 10 ∷ []
+header = codes "rbd diff v1" ++ (10 ∷ [])
 
-abbrev pub encoded_stream : List Content → List ℕ
-encoded_stream cs = header ++ (encodings cs ++ (101 ∷ []))
+abbrev pub stream_bytes : List Content → List ℕ
+stream_bytes cs = header ++ (records_bytes cs ++ (101 ∷ []))
 
 -- the metadata in its canonical order: f unless the from name is empty, t, s
 abbrev pub from_records : List ℕ → List Content
@@ -54,22 +63,24 @@ data_of (image_size n ∷ cs) = data_of cs
 data_of (data_at offset bytes ∷ cs) = data_at offset bytes ∷ data_of cs
 data_of (zeros_at offset n ∷ cs) = zeros_at offset n ∷ data_of cs
 
+-- the name of a record with a tag, else the one before
+abbrev pub name_or : ℕ → List ℕ → Content → List ℕ
+name_or tag before (from_name name) = if tag == 102 then name else before
+name_or tag before (to_name name) = if tag == 116 then name else before
+name_or tag before (image_size n) = before
+name_or tag before (data_at offset bytes) = before
+name_or tag before (zeros_at offset n) = before
+
 -- the last f, t and s of a list, and what stands for them before
+abbrev pub name_of_tag : ℕ → List ℕ → List Content → List ℕ
+name_of_tag tag before [] = before
+name_of_tag tag before (c ∷ cs) = name_of_tag tag (name_or tag before c) cs
+
 abbrev pub from_of : List ℕ → List Content → List ℕ
-from_of before [] = before
-from_of before (from_name name ∷ cs) = from_of name cs
-from_of before (to_name name ∷ cs) = from_of before cs
-from_of before (image_size n ∷ cs) = from_of before cs
-from_of before (data_at offset bytes ∷ cs) = from_of before cs
-from_of before (zeros_at offset n ∷ cs) = from_of before cs
+from_of before cs = name_of_tag 102 before cs
 
 abbrev pub to_of : List ℕ → List Content → List ℕ
-to_of before [] = before
-to_of before (from_name name ∷ cs) = to_of before cs
-to_of before (to_name name ∷ cs) = to_of name cs
-to_of before (image_size n ∷ cs) = to_of before cs
-to_of before (data_at offset bytes ∷ cs) = to_of before cs
-to_of before (zeros_at offset n ∷ cs) = to_of before cs
+to_of before cs = name_of_tag 116 before cs
 
 abbrev pub size_in : ℕ → List Content → ℕ
 size_in before [] = before

@@ -1,5 +1,6 @@
--- What a tag may do depends on the reader's state and the tag together: here are the states, and each tag's rule over them. Rests on faults.
-use Rattle.std.specs.Prelude.{Bool, true, cond, Ok, Err, Result}
+-- What a tag may do depends on the reader's state and the tag together: here are the states, and
+-- each tag's rule over them. Rests on faults.
+use Rattle.std.specs.Prelude.{Bool, true, if◌then◌else◌, Ok, Err, Result}
 use Rattle.fault.specs.declared.kinds.Cause.{Cause}
 use Rattle.fault.specs.declared.kinds.Cause.TheVariants.{Misplaced, Incomplete}
 
@@ -30,20 +31,20 @@ seen_size s = meta s.from s.to true
 
 -- what f does in each state: the state that follows, or the cause
 abbrev pub from_rule : State → Result State Cause
-from_rule (Meta s) = cond s.from (Err Misplaced) (Ok (seen_from s))
+from_rule (Meta s) = if s.from then Err Misplaced else Ok (seen_from s)
 from_rule Data = Err Misplaced
 
 -- t
 abbrev pub to_rule : State → Result State Cause
-to_rule (Meta s) = cond s.to (Err Misplaced) (Ok (seen_to s))
+to_rule (Meta s) = if s.to then Err Misplaced else Ok (seen_to s)
 to_rule Data = Err Misplaced
 
 -- s
 abbrev pub size_rule : State → Result State Cause
-size_rule (Meta s) = cond s.sized (Err Misplaced) (Ok (seen_size s))
+size_rule (Meta s) = if s.sized then Err Misplaced else Ok (seen_size s)
 size_rule Data = Err Misplaced
 
 -- w, z and e: the to name and the size have to be there
 abbrev pub late_rule : State → Result State Cause
-late_rule (Meta s) = cond s.to (cond s.sized (Ok Data) (Err Incomplete)) (Err Incomplete)
+late_rule (Meta s) = if s.to then (if s.sized then Ok Data else Err Incomplete) else Err Incomplete
 late_rule Data = Ok Data

@@ -1,9 +1,10 @@
--- Where a reader stands, and what a step of it promises. Rests on records, on the states and their rules, on the checks
--- of one record, on reading and on faults.
-use Rattle.std.specs.Prelude.{◌≡◌, ℕ, ◌+◌, cond, List, length, take, drop, IfOk, Some, None, Ok, Err, Option, Result, nat_lt}
+-- Where a reader stands, and what a step of it promises. Rests on records, on the states and their
+-- rules, on the checks of one record, on reading and on faults.
+use Rattle.std.specs.Prelude.{◌≡◌, ℕ, ◌+◌, if◌then◌else◌, List, length, take, drop, IfOk, Some, None, Ok, Err, Option, Result, nat_lt}
 use Rattle.std.specs.Option.{is_some, unwrap_or}
+use Rattle.stream.specs.declared.kinds.TheConstants.{NAME_HEAD}
 use Rattle.stream.specs.Rule.{Seen, State, Meta, Data, late_rule}
-use Rattle.stream.specs.Steps.{Pos, span, name_of, step_of, answer, after, fault_at}
+use Rattle.stream.specs.Steps.{Pos, span, name_length_of, step_of, step_answer, pos_after, fault_at}
 use Rattle.stream.specs.Records.{header}
 use Rattle.stream.specs.Verdict.{start, same}
 use Rattle.stream.specs.declared.kinds.Record.{Record}
@@ -14,7 +15,7 @@ use Rattle.stream.specs.declared.kinds.Reached.{Reached}
 use Rattle.stream.specs.declared.kinds.State as code
 use Rattle.stream.specs.declared.kinds.State.TheVariants as states
 use Rattle.stream.specs.declared.kinds.Reader.{Reader}
-use Rattle.fault.specs.Fault.{then, fault, err_by}
+use Rattle.fault.specs.Fault.{and_then, fault, err_by}
 use Rattle.fault.specs.declared.kinds.Cause.{Cause}
 use Rattle.fault.specs.declared.kinds.Cause.TheVariants as causes
 use Rattle.fault.specs.declared.kinds.Fault.{Fault}
@@ -23,7 +24,8 @@ use Rattle.fault.specs.declared.kinds.Fault.{Fault}
 abbrev pub seen_of : Metadata → Seen
 seen_of m = record { from = m.from; to = m.to; sized = is_some m.size }
 
--- what a reader's state says: what was read, the image's size (0 before it is read), the end of the last data record and how many there were
+-- What a reader's state says: what was read, the image's size (0 before it is read), the end of the
+-- last data record and how many there were.
 abbrev pub state_of : code.State → State
 state_of (states.Meta m) = Meta (seen_of m)
 state_of (states.Data d) = Data
@@ -60,52 +62,53 @@ rest_of r = drop r.place r.bytes.now
 
 -- how far data records reached in a state, where they may come
 abbrev pub reached_of : code.State → Result Reached Cause
-reached_of s = then (late_rule (state_of s)) (λ _. Ok (record { size = size_of_state s; end = end_of_state s; count = count_of_state s }))
+reached_of s = and_then (late_rule (state_of s)) (λ _. Ok (record { size = size_of_state s; end = end_of_state s; count = count_of_state s }))
 
 -- a name as it lies at a place, and where the reader then stands, in metadata that follows
 abbrev pub name_step : ℕ → List ℕ → Metadata → Result (Span × Pos) Cause
-name_step place rest m = then (name_of rest) (λ n. Ok (span (place + 5) n, in_meta (place + 5 + n) m))
+name_step place rest m = and_then (name_length_of rest) (λ n. Ok (span (place + NAME_HEAD) n, in_meta (place + NAME_HEAD + n) m))
 
--- a reader behind the header of a stream, or the fault of a stream without one
-abbrev pub opened : Result Reader Fault → Result Pos Fault
-opened (Ok r) = Ok (pos_of r)
-opened (Err f) = Err f
+-- a reader after the header of a stream, or the fault of a stream without one
+abbrev pub opened_pos : Result Reader Fault → Result Pos Fault
+opened_pos (Ok r) = Ok (pos_of r)
+opened_pos (Err f) = Err f
 
 pub record Opened (xs : List ℕ) (r : Result Reader Fault) : Type 0 where
-  pub result : opened r ≡ cond (same (take 12 xs) header) (Ok start) (Err (fault causes.Header 0))
+  pub result : opened_pos r ≡ (if same (take 12 xs) header then Ok start else Err (fault causes.Header 0))
   pub bytes : IfOk r (λ x. x.bytes.now ≡ xs)
 
--- something was read, or refused: the answer and where the reader then stands are those of the step; the bytes are the same
+-- something was read, or refused: the answer and where the reader then stands are those of the
+-- step; the bytes are the same
 pub record Took {A : Type 0} (old new : Reader) (o : Result (A × Pos) Cause) (r : Result A Cause) : Type 0 where
-  pub result : r ≡ answer o
-  pub stands : pos_of new ≡ after (pos_of old) o
+  pub result : r ≡ step_answer o
+  pub stands : pos_of new ≡ pos_after (pos_of old) o
   pub bytes : new.bytes ≡ old.bytes
 
 -- the same of a record with the fault in place of the cause
 pub record Stepped (old new : Reader) (r : Result Record Fault) : Type 0 where
-  pub result : r ≡ err_by (fault_at (length old.bytes.now) old.place) (answer (step_of (pos_of old) (rest_of old)))
-  pub stands : pos_of new ≡ after (pos_of old) (step_of (pos_of old) (rest_of old))
+  pub result : r ≡ err_by (fault_at (length old.bytes.now) old.place) (step_answer (step_of (pos_of old) (rest_of old)))
+  pub stands : pos_of new ≡ pos_after (pos_of old) (step_of (pos_of old) (rest_of old))
   pub bytes : new.bytes ≡ old.bytes
 
--- nothing stands behind the end, in a stream of `total` bytes
-abbrev pub finished : ℕ → ℕ → Result (Unit {0}) Fault
-finished total place = cond (nat_lt place total) (Err (fault causes.Trailing place)) (Ok tt)
+-- nothing stands after the end, in a stream of `total` bytes
+abbrev pub finish_answer : ℕ → ℕ → Result (Unit {0}) Fault
+finish_answer total place = if nat_lt place total then Err (fault causes.Trailing place) else Ok tt
 
 -- a record that is not the end, or none at the end
-abbrev pub unended : ℕ → Record → Pos → Result (Option Record) Fault
-unended total (From s) q = Ok (Some (From s))
-unended total (To s) q = Ok (Some (To s))
-unended total (Size n) q = Ok (Some (Size n))
-unended total (Write offset n place) q = Ok (Some (Write offset n place))
-unended total (Zero offset n) q = Ok (Some (Zero offset n))
-unended total End q = then (finished total q.place) (λ _. Ok None)
+abbrev pub next_answer : ℕ → Record → Pos → Result (Option Record) Fault
+next_answer total (From s) q = Ok (Some (From s))
+next_answer total (To s) q = Ok (Some (To s))
+next_answer total (Size n) q = Ok (Some (Size n))
+next_answer total (Write offset n place) q = Ok (Some (Write offset n place))
+next_answer total (Zero offset n) q = Ok (Some (Zero offset n))
+next_answer total End q = and_then (finish_answer total q.place) (λ _. Ok None)
 
 abbrev pub next_of : ℕ → ℕ → Result (Record × Pos) Cause → Result (Option Record) Fault
-next_of total place (Ok s) = unended total s.0 s.1
+next_of total place (Ok s) = next_answer total s.0 s.1
 next_of total place (Err c) = Err (fault_at total place c)
 
 -- the next record was read, or there was none, or the stream was refused
 pub record Turned (old new : Reader) (r : Result (Option Record) Fault) : Type 0 where
   pub result : r ≡ next_of (length old.bytes.now) old.place (step_of (pos_of old) (rest_of old))
-  pub stands : pos_of new ≡ after (pos_of old) (step_of (pos_of old) (rest_of old))
+  pub stands : pos_of new ≡ pos_after (pos_of old) (step_of (pos_of old) (rest_of old))
   pub bytes : new.bytes ≡ old.bytes

@@ -1,16 +1,17 @@
-ghost use Rattle.std.specs.Prelude.{◌≡◌, ◌+◌, cond, length, Ok, Err, nat_lt};
+ghost use Rattle.std.specs.Prelude.{◌≡◌, ◌+◌, if◌then◌else◌, length, Ok, Err, nat_lt};
 ghost use Rattle.std.specs.Char.{is_ascii_graphic};
 ghost use Rattle.std.specs.List.{list_all};
 ghost use Rattle.stream.specs.Bytes.{field};
-ghost use Rattle.stream.specs.Steps.{every_printable, name_of, size_of};
+ghost use Rattle.stream.specs.Steps.{every_printable, name_length_of, size_of};
 ghost use Rattle.fault.specs.declared.kinds.Cause.TheVariants.{Cut};
 
-use crate::kinds::{LARGEST_SIZE, LONGEST_NAME};
+use crate::kinds::{LARGEST_SIZE, LONGEST_NAME, NAME_HEAD};
 use fault::Cause;
 
-// The N bytes from `at` on, which have to be there.
+// The N bytes from `at` on, or `Cut` where the bytes end before.
 pub(crate) fn array_at<const N: usize>(bytes: &[u8], at: usize) -> Result<[u8; N], Cause>
-    ensures { result ≡ cond (nat_lt (length bytes.now) (at + N)) (Err Cut) (Ok (field bytes.now at N)) }
+    ensures { result ≡ (
+        if nat_lt (length bytes.now) (at + N) then Err Cut else Ok (field bytes.now at N)) }
 {
     let Some(tail) = bytes.get(at..) else {
         return Err(Cause::Cut);
@@ -19,14 +20,14 @@ pub(crate) fn array_at<const N: usize>(bytes: &[u8], at: usize) -> Result<[u8; N
     Ok(*chunk)
 }
 
-// Whether each byte of a name is graphic in ASCII, from 33 to 126.
+// Whether each byte is a graphic ASCII character, 33 to 126.
 fn all_printable(name: &[u8]) -> bool
     ensures { result ≡ list_all is_ascii_graphic name.now }
 {
     name.iter().all(|byte| byte.is_ascii_graphic())
 }
 
-// Whether each byte is one that a name may have: 33 to 126.
+/// Whether each byte may stand in a name: 33 to 126, the graphic ASCII characters.
 #[tactic(auto, using(crate::proofs::Graphic::printable_is))]
 pub fn printable(name: &[u8]) -> bool
     ensures { result ≡ every_printable name.now }
@@ -34,24 +35,25 @@ pub fn printable(name: &[u8]) -> bool
     all_printable(name)
 }
 
-// The length of the name in the record that begins `rest`.
+// The length of the name in the record at the beginning of `rest`. Its length is checked first,
+// then whether it is cut off, then its bytes.
 pub(crate) fn name_length(rest: &[u8]) -> Result<usize, Cause>
-    ensures { result ≡ name_of rest.now }
+    ensures { result ≡ name_length_of rest.now }
 {
     let length = u32::from_le_bytes(array_at(rest, 1)?) as usize;
     if length == 0 || length > LONGEST_NAME {
         return Err(Cause::BadName);
     }
-    if rest.len() < 5 + length {
+    if rest.len() < NAME_HEAD + length {
         return Err(Cause::Cut);
     }
-    if !printable(&rest[5..5 + length]) {
+    if !printable(&rest[NAME_HEAD..NAME_HEAD + length]) {
         return Err(Cause::BadName);
     }
     Ok(length)
 }
 
-// The size in the record that begins `rest`.
+// The size in the record at the beginning of `rest`.
 pub(crate) fn size_in(rest: &[u8]) -> Result<u64, Cause>
     ensures { result ≡ size_of rest.now }
 {

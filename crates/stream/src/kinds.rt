@@ -1,38 +1,41 @@
 ghost use Rattle.std.specs.Prelude.{◌≤◌, length};
 
-use overlay::{PayloadMark, RangeMark, Run};
+use overlay::{RangeMark, Run};
 
-// What each stream begins with.
+/// The first bytes of every stream.
 pub const HEADER: &[u8] = b"rbd diff v1\n";
 
-// How many data records a stream may have.
+/// The most data records that a stream may have.
 pub const MOST_RECORDS: usize = 512;
 
-// The length of the longest name.
+/// The length of the longest name, in bytes.
 pub const LONGEST_NAME: usize = 64;
 
-// The largest size of an image.
+/// The largest size of an image, in bytes.
 pub const LARGEST_SIZE: u64 = 1 << 40;
 
-// How many ranges the runs of one stream may come to, by the bound that the overlay promises.
-pub const MOST_RANGES: usize = 1026;
+/// The bytes of a name's record before the name: its tag and its length.
+pub const NAME_HEAD: usize = 5;
 
-// Places for the runs of one stream, and for its ranges. Nothing here allocates: so these are lent, and
-// a count beside them tells how many are filled.
-pub type Parts = [Run<PayloadMark>; MOST_RECORDS];
+/// The bytes of a size's record: its tag and the size.
+pub const SIZE_HEAD: usize = 9;
 
-pub type Ranges = [Run<RangeMark>; MOST_RANGES];
+/// The bytes of a data record before its payload: its tag, its offset and its length.
+pub const RANGE_HEAD: usize = 17;
 
-// A name by its part of the stream. A name that the stream does not have is one of length 0: the empty
-// name is that of the state before the first snapshot.
+/// Room for the ranges of one stream, or of a join. Nothing here allocates: the caller provides the
+/// array, and a count beside it says how many elements are in use.
+pub type Ranges = [Run<RangeMark>; MOST_RECORDS];
+
+// Where a name lies in its stream. Length 0 stands for a name that the stream does not have: the
+// empty name is that of the state before the first snapshot.
 #[derive(Clone, Copy)]
 pub struct Span {
     pub place: usize,
     pub length: usize,
 }
 
-// Which of the metadata was read: of the names only that they were, since their records tell where they
-// lie, and the size with what it says.
+// Which metadata was read so far: whether there were names, and the size.
 #[derive(Clone, Copy)]
 pub struct Metadata {
     pub from: bool,
@@ -40,8 +43,8 @@ pub struct Metadata {
     pub size: Option<u64>,
 }
 
-// How far the data records reached: the image's size, where the last one ends in it, and how many
-// there were.
+// What the next data record has to keep to: the image's size, where the last record ends, and how
+// many there were.
 #[derive(Clone, Copy)]
 pub struct Reached {
     pub size: u64,
@@ -56,7 +59,7 @@ pub enum State {
     Data(Reached),
 }
 
-// A record as it lies in the stream: a name or a payload by its place and length.
+// A record as it lies in the stream. A name or a payload is given by its place and length.
 #[derive(Clone, Copy)]
 pub enum Record {
     From(Span),
@@ -74,7 +77,7 @@ pub enum Record {
     End,
 }
 
-// A stream with the place of the next record, and what the records before it say.
+// A stream with the place of the next record, and what was read before it.
 #[derive(Drop)]
 pub struct Reader<'a> {
     pub(crate) bytes: &'a [u8],
@@ -83,11 +86,10 @@ pub struct Reader<'a> {
     ghost within: { place ≤ length bytes.now },
 }
 
-// The metadata of a stream, and how many runs it has.
+// The metadata of a stream, its names by their places.
 #[derive(Clone, Copy)]
 pub struct Summary {
     pub from: Span,
     pub to: Span,
     pub size: u64,
-    pub count: usize,
 }

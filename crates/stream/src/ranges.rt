@@ -1,88 +1,63 @@
-ghost use Rattle.std.specs.Prelude.{◌≡◌, ◌≤◌, map, length, take, drop, IfOk, IfErr};
+ghost use Rattle.std.specs.Prelude.{◌≡◌, ◌≤◌, map, length};
+ghost use Rattle.overlay.specs.Buffers.{first_places};
 ghost use Rattle.overlay.specs.Marks.{range_of};
-ghost use Rattle.overlay.specs.Runs.{remarked};
-ghost use Rattle.stream.specs.Parts.{part_ranges, counted_ranges};
-ghost use Rattle.stream.specs.Told.{stream_ranges};
+ghost use Rattle.overlay.specs.Runs.{with_mark};
+ghost use Rattle.stream.specs.Parts.{range_runs, part_ranges, RangesFound};
 
 use crate::kinds::{MOST_RECORDS, Ranges};
-use crate::reading::read;
-use fault::Fault;
-use overlay::{PayloadMark, RangeMark, Run, Sheet, Side, overlay};
+use overlay::{PayloadMark, RangeMark, Run, Sheet, overlay};
 
-// Puts runs by their kind alone to the front of `out`.
-fn put_kinds(parts: &[Run<PayloadMark>], out: &mut [Run<RangeMark>])
-    requires { length parts.now ≤ length out.old }
-    ensures kinds { take (length parts.now) out.new ≡ map (remarked range_of) parts.now }
-    ensures behind { drop (length parts.now) out.new ≡ drop (length parts.now) out.old }
+// Writes the kinds of runs, run by run.
+fn put_kinds(runs: &[Run<PayloadMark>], out: &mut [Run<RangeMark>])
+    requires { length runs.now ≤ length out.old }
+    ensures { out.new ≡ first_places (map (with_mark range_of) runs.now) out.old }
 {
-    // By index: of what an adapter of `iter_mut` wrote, nothing is known after the loop.
-    for (i, part) in parts.iter().enumerate() {
+    for (i, run) in runs.iter().enumerate() {
         out[i] = Run {
-            offset: part.offset,
-            length: part.length,
-            mark: part.mark.into(),
+            offset: run.offset,
+            length: run.length,
+            mark: run.mark.into(),
         };
     }
 }
 
-// Puts runs by their kind alone to the front of `out`; what lies behind them stays.
-pub fn mark_ranges(parts: &[Run<PayloadMark>], out: &mut [Run<RangeMark>])
-    requires { length parts.now ≤ length out.old }
-    ensures kinds { take (length parts.now) out.new ≡ map (remarked range_of) parts.now }
-    ensures behind { drop (length parts.now) out.new ≡ drop (length parts.now) out.old }
+/// Writes the runs of a sheet, each with its kind alone, into the first places of `out`, and lends
+/// them out as a sheet. What the places after them then hold is not said.
+#[tactic(auto, using(crate::proofs::Ranged::kinds_found, crate::proofs::Ranged::kinds_rise))]
+pub fn mark_ranges<'k>(sheet: Sheet<PayloadMark>, out: &'k mut Ranges) -> Sheet<'k, RangeMark>
+    requires { length sheet.runs.now ≤ MOST_RECORDS }
+    ensures runs { result.runs.now ≡ map (with_mark range_of) sheet.entry.runs.now }
+    ensures size { result.size ≡ sheet.entry.size }
 {
-    put_kinds(parts, out)
+    put_kinds(sheet.runs, out);
+    Sheet {
+        runs: &out[..sheet.runs.len()],
+        size: sheet.size,
+    }
 }
 
-// Puts the ranges of one stream's runs to the front of `out`, and counts them: the overlay of its runs
-// over nothing.
-fn overlay_nothing(sheet: Sheet<PayloadMark>, out: &mut Ranges) -> usize
-    requires { length sheet.runs.now ≤ 512 }
-    ensures within { result ≤ 1026 }
-    ensures ranges { take result out.new ≡ part_ranges sheet.entry.runs.now sheet.entry.size }
-    ensures behind { drop result out.new ≡ drop result out.old }
+// The ranges of a stream: its runs laid over nothing, which unites those that touch and are of one
+// kind.
+fn unite(sheet: Sheet<RangeMark>, out: &mut Ranges) -> usize
+    requires { length sheet.runs.now ≤ MOST_RECORDS }
+    ensures { RangesFound (range_runs sheet.entry.runs.now sheet.entry.size)
+        result out.old out.new }
 {
-    let size = sheet.size;
-    let mut bounds = [Run::<RangeMark>::NONE; MOST_RECORDS];
-    put_kinds(sheet.runs, &mut bounds);
-    let nothing = Sheet { runs: &[], size };
-    let ranges = Sheet {
-        runs: &bounds[..sheet.runs.len()],
-        size,
+    let nothing = Sheet {
+        runs: &[],
+        size: sheet.size,
     };
-    overlay(nothing, ranges, out).unwrap()
+    overlay(nothing, sheet, out).unwrap()
 }
 
-// Puts the ranges of one stream's runs to the front of `out`, and counts them: the overlay of its runs
-// over nothing. What lies behind them stays.
+/// Finds the ranges that the runs of one stream come to. Writes them into the first places of `out`
+/// and returns how many there are. The places after them stay.
+#[tactic(auto, unfolding(crate::specs::Parts::part_ranges))]
 pub fn find_ranges(sheet: Sheet<PayloadMark>, out: &mut Ranges) -> usize
-    requires { length sheet.runs.now ≤ 512 }
-    ensures within { result ≤ 1026 }
-    ensures ranges { take result out.new ≡ part_ranges sheet.entry.runs.now sheet.entry.size }
-    ensures behind { drop result out.new ≡ drop result out.old }
+    requires { length sheet.runs.now ≤ MOST_RECORDS }
+    ensures { RangesFound (part_ranges sheet.entry.runs.now sheet.entry.size)
+        result out.old out.new }
 {
-    overlay_nothing(sheet, out)
-}
-
-// Puts the ranges of a stream to the front of `out`, and counts them.
-fn ranges_in(stream: &[u8], out: &mut Ranges) -> Result<usize, Fault>
-    ensures within { IfOk result (λ k. k ≤ 1026) }
-    ensures read { counted_ranges result out.new ≡ stream_ranges stream.now }
-    ensures behind { IfOk result (λ k. drop k out.new ≡ drop k out.old) }
-    ensures refused { IfErr result (λ _. out.new ≡ out.old) }
-{
-    let mut parts = [Run::<PayloadMark>::NONE; MOST_RECORDS];
-    let summary = read(stream, Side::Later, &mut parts)?;
-    Ok(overlay_nothing(summary.sheet(&parts), out))
-}
-
-// Puts the ranges of a stream to the front of `out`, and counts them; what lies behind them stays, and so does all of it where the
-// stream is refused.
-pub fn read_ranges(stream: &[u8], out: &mut Ranges) -> Result<usize, Fault>
-    ensures within { IfOk result (λ k. k ≤ 1026) }
-    ensures read { counted_ranges result out.new ≡ stream_ranges stream.now }
-    ensures behind { IfOk result (λ k. drop k out.new ≡ drop k out.old) }
-    ensures refused { IfErr result (λ _. out.new ≡ out.old) }
-{
-    ranges_in(stream, out)
+    let mut bounds = [Run::<RangeMark>::NONE; MOST_RECORDS];
+    unite(mark_ranges(sheet, &mut bounds), out)
 }

@@ -1,14 +1,18 @@
 ghost use Rattle.std.specs.Prelude.{◌≡◌, ◌+◌, ◌-◌, ◌^◌, ◌<◌, ◌≤◌, length, Ok, IfOk};
 ghost use Rattle.stream.specs.Rule.{seen_from, seen_to, seen_size, Data};
-ghost use Rattle.stream.specs.Steps.{data_range_of, payload_of, step_of, from_step, to_step, size_step, data_step, zeros_step, end_step, fault_at};
-ghost use Rattle.stream.specs.Stands.{seen_of, in_meta, in_data, pos_of, rest_of, reached_of, name_step, Took, Opened, finished, Stepped, Turned};
+ghost use Rattle.stream.specs.Steps.{data_range_of, payload_range_of, step_of, from_step, to_step, size_step, data_step, zeros_step, end_step, fault_at};
+ghost use Rattle.stream.specs.Stands.{seen_of, in_meta, in_data, pos_of, rest_of, reached_of, name_step, Took, Opened, finish_answer, Stepped, Turned};
 
 use crate::fields::{array_at, name_length, size_in};
-use crate::kinds::{HEADER, MOST_RECORDS, Metadata, Reached, Reader, Record, Span, State};
+use crate::kinds::{
+    HEADER, MOST_RECORDS, Metadata, NAME_HEAD, RANGE_HEAD, Reached, Reader, Record, SIZE_HEAD,
+    Span, State,
+};
 use fault::{Cause, Fault};
 
 impl State {
-    // How far data records reached, where they may come: behind the metadata once that is whole.
+    // What the next data record has to keep to. Data may come once the to name and the size were
+    // read.
     fn reached(self) -> Result<Reached, Cause>
         ensures { result ≡ reached_of self }
     {
@@ -31,9 +35,9 @@ impl State {
 }
 
 impl Reached {
-    // The same with one more data record.
+    // The same after one more data record.
     fn past(self, offset: u64, length: u64) -> Reached
-        requires { (offset + «length» < 2 ^ 64) × (self.count < 512) }
+        requires { (offset + «length» < 2 ^ 64) × (self.count < MOST_RECORDS) }
         ensures { result ≡ record self { end = offset + «length»; count = self.count + 1 } }
     {
         Reached {
@@ -45,7 +49,7 @@ impl Reached {
 }
 
 impl<'a> Reader<'a> {
-    // A reader behind the header of a stream.
+    // A reader that stands after the header of a stream.
     pub(crate) fn open(bytes: &'a [u8]) -> Result<Reader<'a>, Fault>
         ensures { Opened bytes.now result }
     {
@@ -70,8 +74,8 @@ impl<'a> Reader<'a> {
         &self.bytes[self.place..]
     }
 
-    // The offset and the length of the next record, as one of data. (The writer has a check of
-    // its own: here a record that is cut is told behind the count of records and before the range.)
+    // The offset and the length of the next data record. A record too many is reported first, then
+    // one that is cut off, then a bad range.
     fn range(&self, reached: Reached) -> Result<(u64, u64), Cause>
         ensures { result ≡ data_range_of (in_data self.now.place reached) (rest_of self.now) }
     {
@@ -89,31 +93,34 @@ impl<'a> Reader<'a> {
         Ok((offset, length))
     }
 
-    // The same of a record with payload, which has to be there.
+    // The same for a record with payload, which must not be cut off.
     fn payload(&self, reached: Reached) -> Result<(u64, u64), Cause>
-        ensures { result ≡ payload_of (in_data self.now.place reached) (rest_of self.now) }
+        ensures { result ≡ payload_range_of (in_data self.now.place reached) (rest_of self.now) }
     {
         let (offset, length) = self.range(reached)?;
-        if ((self.rest().len() - 17) as u64) < length {
+        if ((self.rest().len() - RANGE_HEAD) as u64) < length {
             return Err(Cause::Cut);
         }
         Ok((offset, length))
     }
 
-    // Steps over the name of the next record, to the metadata that was then read.
+    // Steps over the next record, a name. `metadata` is what was read with it.
     fn take_name(&mut self, metadata: Metadata) -> Result<Span, Cause>
-        ensures { Took self.old self.new (name_step self.old.place (rest_of self.old) metadata) result }
+        ensures { Took self.old self.new
+            (name_step self.old.place (rest_of self.old) metadata) result }
     {
         let length = name_length(self.rest())?;
-        let place = self.place + 5;
+        let place = self.place + NAME_HEAD;
         self.place = place + length;
         self.state = State::Meta(metadata);
         Ok(Span { place, length })
     }
 
-    // Reads the from name, behind metadata that was read. (Of one shape with `take_to`: the kinds of record differ.)
+    // Reads the from name, after this metadata.
     fn take_from(&mut self, metadata: Metadata) -> Result<Record, Cause>
-        ensures { Took self.old self.new (from_step (in_meta self.old.place metadata) (rest_of self.old) (seen_from (seen_of metadata))) result }
+        ensures { Took self.old self.new
+            (from_step (in_meta self.old.place metadata) (rest_of self.old) (seen_from (seen_of metadata)))
+            result }
     {
         let span = self.take_name(Metadata {
             from: true,
@@ -122,9 +129,11 @@ impl<'a> Reader<'a> {
         Ok(Record::From(span))
     }
 
-    // Reads the to name.
+    // Reads the to name, after this metadata.
     fn take_to(&mut self, metadata: Metadata) -> Result<Record, Cause>
-        ensures { Took self.old self.new (to_step (in_meta self.old.place metadata) (rest_of self.old) (seen_to (seen_of metadata))) result }
+        ensures { Took self.old self.new
+            (to_step (in_meta self.old.place metadata) (rest_of self.old) (seen_to (seen_of metadata)))
+            result }
     {
         let span = self.take_name(Metadata {
             to: true,
@@ -133,12 +142,14 @@ impl<'a> Reader<'a> {
         Ok(Record::To(span))
     }
 
-    // Reads the size.
+    // Reads the size, after this metadata.
     fn take_size(&mut self, metadata: Metadata) -> Result<Record, Cause>
-        ensures { Took self.old self.new (size_step (in_meta self.old.place metadata) (rest_of self.old) (seen_size (seen_of metadata))) result }
+        ensures { Took self.old self.new
+            (size_step (in_meta self.old.place metadata) (rest_of self.old) (seen_size (seen_of metadata)))
+            result }
     {
         let size = size_in(self.rest())?;
-        self.place += 9;
+        self.place += SIZE_HEAD;
         self.state = State::Meta(Metadata {
             size: Some(size),
             ..metadata
@@ -146,12 +157,13 @@ impl<'a> Reader<'a> {
         Ok(Record::Size(size))
     }
 
-    // Reads a written range, behind data records that reached so far.
+    // Reads a written range, after data records that reached this far.
     fn take_data(&mut self, reached: Reached) -> Result<Record, Cause>
-        ensures { Took self.old self.new (data_step (in_data self.old.place reached) (rest_of self.old) Data) result }
+        ensures { Took self.old self.new
+            (data_step (in_data self.old.place reached) (rest_of self.old) Data) result }
     {
         let (offset, length) = self.payload(reached)?;
-        let place = self.place + 17;
+        let place = self.place + RANGE_HEAD;
         self.place = place + length as usize;
         self.state = State::Data(reached.past(offset, length));
         Ok(Record::Write {
@@ -161,28 +173,30 @@ impl<'a> Reader<'a> {
         })
     }
 
-    // Reads a range of zeros.
+    // Reads a range of zeros, after data records that reached this far.
     fn take_zeros(&mut self, reached: Reached) -> Result<Record, Cause>
-        ensures { Took self.old self.new (zeros_step (in_data self.old.place reached) (rest_of self.old) Data) result }
+        ensures { Took self.old self.new
+            (zeros_step (in_data self.old.place reached) (rest_of self.old) Data) result }
     {
         let (offset, length) = self.range(reached)?;
-        self.place += 17;
+        self.place += RANGE_HEAD;
         self.state = State::Data(reached.past(offset, length));
         Ok(Record::Zero { offset, length })
     }
 
-    // Reads the end.
+    // Reads the end record.
     fn take_end(&mut self, reached: Reached) -> Record
         requires { self.old.place < length self.old.bytes.now }
-        ensures { Took self.old self.new (end_step (in_data self.old.place reached) Data) (Ok result) }
+        ensures { Took self.old self.new
+            (end_step (in_data self.old.place reached) Data) (Ok result) }
     {
         self.place += 1;
         self.state = State::Data(reached);
         Record::End
     }
 
-    // The next record: what its tag may do depends on the state and the tag together. Steps over it;
-    // a refusal leaves the reader as it was.
+    // Reads the next record and steps over it. Which tags may come depends on the state. A refusal
+    // leaves the reader as it was.
     fn record(&mut self) -> Result<Record, Cause>
         ensures { Took self.old self.new (step_of (pos_of self.old) (rest_of self.old)) result }
     {
@@ -201,7 +215,7 @@ impl<'a> Reader<'a> {
         }
     }
 
-    // Reads the next record and steps over it, or tells the fault.
+    // The same, with the fault in place of the cause.
     fn step(&mut self) -> Result<Record, Fault>
         ensures { Stepped self.old self.new result }
     {
@@ -209,8 +223,9 @@ impl<'a> Reader<'a> {
         self.record().map_err(|cause| fault_at(total, place, cause))
     }
 
-    // Reads the next record and steps over it: none at the end, behind which nothing may stand. This is
-    // no `Iterator`: after a refusal the reader stands where it stood, and would be refused for ever.
+    // Reads the next record and steps over it. There is none at the end record, after which no byte
+    // may follow. This is no `Iterator`: after a refusal the reader stands where it stood, and each
+    // further call would be refused again.
     pub(crate) fn next(&mut self) -> Result<Option<Record>, Fault>
         ensures { Turned self.old self.new result }
     {
@@ -222,9 +237,9 @@ impl<'a> Reader<'a> {
         Ok(Some(record))
     }
 
-    // Tells the fault of bytes behind the end.
+    // Refuses bytes after the end record.
     fn finish(&self) -> Result<(), Fault>
-        ensures { result ≡ finished (length self.now.bytes.now) self.now.place }
+        ensures { result ≡ finish_answer (length self.now.bytes.now) self.now.place }
     {
         if self.place < self.bytes.len() {
             return Err(Fault::new(Cause::Trailing, self.place as u64));
@@ -233,7 +248,7 @@ impl<'a> Reader<'a> {
     }
 }
 
-// The fault of a record at a place, in a stream of `total` bytes.
+// The fault of a record at a place. Where the stream is cut off, its place is the stream's length.
 fn fault_at(total: usize, place: usize, cause: Cause) -> Fault
     ensures { result ≡ fault_at total place cause }
 {

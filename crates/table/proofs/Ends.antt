@@ -1,6 +1,6 @@
 -- Rows that lie end to end: the bounds of each row, and the rows after each operation.
 use Rattle.std.proofs.Common.{◌≡◌, ℕ, zero, suc, ◌+◌, ◌-◌, ◌<◌, ◌≤◌, List, [], ◌∷◌, ◌++◌, map, length, get_or, take, drop, sym, ap, subst, arith}
-use Rattle.table.specs.Tables.{Row, end_of, no_row, fill_after, moved, EndToEnd}
+use Rattle.table.specs.Tables.{Row, end_of, no_row, fill_after, moved_row, united_row, EndToEnd}
 
 -- where rows end to end lie
 pub ends_le : (a b : ℕ) (rs : List Row) → EndToEnd a rs b → a ≤ b
@@ -34,25 +34,25 @@ pub ends_append : (a b c : ℕ) (rs ss : List Row) → EndToEnd a rs b → EndTo
 ends_append a b c [] ss h k = subst (λ x. EndToEnd x ss c) (sym h) k
 ends_append a b c (r ∷ rs) ss h k = (h.0, ends_append (end_of r) b c rs ss h.1 k)
 
-pub ends_moved : (old new a b : ℕ) (rs : List Row) → old ≤ a → EndToEnd a rs b → EndToEnd (new + (a - old)) (map (moved old new) rs) (new + (b - old))
+pub ends_moved : (old new a b : ℕ) (rs : List Row) → old ≤ a → EndToEnd a rs b → EndToEnd (new + (a - old)) (map (moved_row old new) rs) (new + (b - old))
 ends_moved old new a b [] l h = ap (λ x. new + (x - old)) h
 ends_moved old new a b (r ∷ rs) l h =
     let at = h.0 in
-    let e : new + (end_of r - old) ≡ end_of (moved old new r) = omega arith in
-    (ap (λ x. new + (x - old)) at, subst (λ x. EndToEnd x (map (moved old new) rs) (new + (b - old))) e (ends_moved old new (end_of r) b rs (omega arith) h.1))
+    let e : new + (end_of r - old) ≡ end_of (moved_row old new r) = omega arith in
+    (ap (λ x. new + (x - old)) at, subst (λ x. EndToEnd x (map (moved_row old new) rs) (new + (b - old))) e (ends_moved old new (end_of r) b rs (omega arith) h.1))
 
 -- rows that began at an old place, at a new one
-pub ends_moved_to : (old new b : ℕ) (rs : List Row) → EndToEnd old rs b → EndToEnd new (map (moved old new) rs) (new + (b - old))
+pub ends_moved_to : (old new b : ℕ) (rs : List Row) → EndToEnd old rs b → EndToEnd new (map (moved_row old new) rs) (new + (b - old))
 ends_moved_to old new b rs h =
     let e : new + (old - old) ≡ new = omega arith in
-    subst (λ x. EndToEnd x (map (moved old new) rs) (new + (b - old))) e (ends_moved old new old b rs (omega arith) h)
+    subst (λ x. EndToEnd x (map (moved_row old new) rs) (new + (b - old))) e (ends_moved old new old b rs (omega arith) h)
 
 -- rows i and i + 1 as one of n bytes, with any to name
 pub ends_united : (a b : ℕ) (rs : List Row) (i n : ℕ) (to : List ℕ) → suc i < length rs → EndToEnd a rs b
     → EndToEnd a
     (take i rs
-    ++ (record { place = (get_or rs i no_row).place; length = n; from = (get_or rs i no_row).from; to = to }
-    ∷ map (moved (end_of (get_or rs (suc i) no_row)) ((get_or rs i no_row).place + n)) (drop (suc (suc i)) rs)))
+    ++ (united_row n to (get_or rs i no_row)
+    ∷ map (moved_row (end_of (get_or rs (suc i) no_row)) ((get_or rs i no_row).place + n)) (drop (suc (suc i)) rs)))
     (fill_after b (get_or rs i no_row).place (end_of (get_or rs (suc i) no_row)) n)
 ends_united a b [] i n to l h = absurd (omega arith)
 ends_united a b (r ∷ []) i n to l h = absurd (omega arith)

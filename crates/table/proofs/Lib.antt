@@ -1,5 +1,5 @@
 pub mod Ends
-mod Held
+mod EntryRows
 mod Names
-mod Closed
+mod Removal
 mod Steps

@@ -1,20 +1,20 @@
 -- The table after each step on its entries, and that it is laid out again.
 use Rattle.std.proofs.Common.{◌≡◌, ℕ, suc, ◌+◌, ◌-◌, ◌^◌, ◌<◌, ◌≤◌, List, [], ◌∷◌, ◌++◌, map, length, get_or, take, drop, set, remove, sym, refl, ap, ◌∙◌, subst, ap₂, add-one, arith}
 use Rattle.std.proofs.lemmas.List.{map-append, length-map, length-append, length-take-le, length-drop, take-map, drop-map, get_or-map}
-use Rattle.table.specs.Tables.{Row, Table, end_of, no_row, row_at, moved, united_row, append_row, take_over, drop_for, LaidOut, EndToEnd}
+use Rattle.table.specs.Tables.{Row, Table, end_of, no_row, row_at, moved_row, united_row, append_row, take_over, drop_for, LaidOut, EndToEnd}
 use Rattle.table.specs.Entries.{row_of, united_entry, moved_entry, Movable}
-use Rattle.table.specs.Held.{table_of}
+use Rattle.table.specs.EntryTables.{table_of}
 use Rattle.table.specs.Names.{name_of}
 use Rattle.table.specs.declared.entry.Entry.{Entry}
 use Rattle.table.specs.declared.name.Name.{Name}
 use Rattle.table.specs.declared.table.EntryTable.TheInside.{Inside}
-use Rattle.table.proofs.Closed.{element_left, lent}
+use Rattle.table.proofs.Removal.{element_left, lent}
 use Rattle.table.proofs.Ends.{ends_le, ends_inside, ends_above, ends_drop, ends_append, ends_moved_to, ends_united}
 
 -- moving entries moves their rows
-pub rows_moved : (old new : ℕ) (es : List Entry) → map row_of (map (moved_entry old new) es) ≡ map (moved old new) (map row_of es)
+pub rows_moved : (old new : ℕ) (es : List Entry) → map row_of (map (moved_entry old new) es) ≡ map (moved_row old new) (map row_of es)
 rows_moved old new [] = refl
-rows_moved old new (e ∷ es) = ap (λ q. moved old new (row_of e) ∷ q) (rows_moved old new es)
+rows_moved old new (e ∷ es) = ap (λ q. moved_row old new (row_of e) ∷ q) (rows_moved old new es)
 
 -- entries that lie end to end from an old place on can move
 pub movable : (old new b : ℕ) (es : List Entry) → EndToEnd old (map row_of es) b → new + (b - old) < 2 ^ 64 → Movable old new es
@@ -41,9 +41,9 @@ module _ (t : Table) (h : LaidOut t) where
   united i n to l =
       let rs = t.rows in
       let one : Row = united_row n to (row_at t i) in
-      let later = map (moved (end_of (row_at t (i + 1))) ((row_at t i).place + n)) (drop (i + 2) rs) in
+      let later = map (moved_row (end_of (row_at t (i + 1))) ((row_at t i).place + n)) (drop (i + 2) rs) in
       let ends : ℕ → ℕ → Type 0 = λ k d.
-      EndToEnd 0 (take i rs ++ (one ∷ map (moved (end_of (row_at t k)) ((row_at t i).place + n)) (drop d rs))) ((row_at t i).place + n + (t.fill - end_of (row_at t k))) in
+      EndToEnd 0 (take i rs ++ (one ∷ map (moved_row (end_of (row_at t k)) ((row_at t i).place + n)) (drop d rs))) ((row_at t i).place + n + (t.fill - end_of (row_at t k))) in
       let j : suc (suc i) ≡ i + 2 = omega arith in
       record {
         end_to_end = subst (λ k. ends k (i + 2)) (sym (add-one i)) (subst (ends (suc i)) j (ends_united 0 t.fill rs i n to (omega arith) h.end_to_end));
@@ -53,7 +53,7 @@ module _ (t : Table) (h : LaidOut t) where
               h.few,
               length-append (take i rs) (one ∷ later),
               length-take-le i rs (omega arith),
-              length-map (drop (i + 2) rs) (moved (end_of (row_at t (i + 1))) ((row_at t i).place + n)),
+              length-map (drop (i + 2) rs) (moved_row (end_of (row_at t (i + 1))) ((row_at t i).place + n)),
               length-drop (i + 2) rs,
             );
       }
@@ -64,7 +64,7 @@ module _ (t : Table) (h : LaidOut t) where
       let old = end_of (row_at t 0) in
       record {
         end_to_end = ends_moved_to old 0 t.fill (drop 1 t.rows) (ends_drop 0 t.fill t.rows 0 l h.end_to_end);
-        few = omega (arith, h.few, length-map (drop 1 t.rows) (moved old 0), length-drop 1 t.rows);
+        few = omega (arith, h.few, length-map (drop 1 t.rows) (moved_row old 0), length-drop 1 t.rows);
       }
 
   -- the rows behind row i lie end to end
@@ -151,12 +151,12 @@ module _ (t : Inside) (s : Table) (seen : table_of t ≡ s) (h : LaidOut (table_
           → record { base = name_of t.base; rows = map row_of items; fill = new + (t.fill - old) } ≡ take_over s i b (name_of to)
       united_is items e =
           let rs = map row_of es in
-          let made_of : Row → ℕ → ℕ → Table = λ r p q. record { base = name_of t.base; rows = take i rs ++ r ∷ map (moved p q) (drop (i + 2) rs); fill = q + (t.fill - p) } in
+          let made_of : Row → ℕ → ℕ → Table = λ r p q. record { base = name_of t.base; rows = take i rs ++ r ∷ map (moved_row p q) (drop (i + 2) rs); fill = q + (t.fill - p) } in
           let one : Row → Row = united_row b (name_of to) in
-          let back : map row_of (map (moved_entry old new) (drop (i + 2) es)) ≡ map (moved old new) (drop (i + 2) rs) =
-          rows_moved old new (drop (i + 2) es) ∙ ap (map (moved old new)) (sym (drop-map row_of (i + 2) es)) in
+          let back : map row_of (map (moved_entry old new) (drop (i + 2) es)) ≡ map (moved_row old new) (drop (i + 2) rs) =
+          rows_moved old new (drop (i + 2) es) ∙ ap (map (moved_row old new)) (sym (drop-map row_of (i + 2) es)) in
           let row : row_of x ≡ one (row_at (table_of t) i) = ap row_of made ∙ ap one earlier_is in
-          let rows : map row_of items ≡ take i rs ++ row_of x ∷ map (moved old new) (drop (i + 2) rs) =
+          let rows : map row_of items ≡ take i rs ++ row_of x ∷ map (moved_row old new) (drop (i + 2) rs) =
           ap (map row_of) e ∙ map-append row_of (take i es) (x ∷ map (moved_entry old new) (drop (i + 2) es)) ∙ ap₂ (λ p q. p ++ row_of x ∷ q) (sym (take-map row_of i es)) back in
           ap (λ q. record { base = name_of t.base; rows = q; fill = new + (t.fill - old) }) rows
           ∙ ap (λ r. made_of r old new) row

@@ -1,4 +1,4 @@
 pub mod Tables
 pub mod Names
 pub mod Entries
-pub mod Held
+pub mod EntryTables

@@ -1,4 +1,4 @@
--- What a name in a table means: its bytes. Rests on nothing.
+-- The bytes of a name in a table. Rests on nothing.
 use Rattle.std.specs.Prelude.{ℕ, List, take}
 use Rattle.table.specs.declared.name.Name.{Name}
 

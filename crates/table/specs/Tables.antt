@@ -1,16 +1,20 @@
--- The table of a shelf and what the calls do to it. A shelf keeps difference streams, its entries, end to end at the front of a piece of memory that is
--- handed in with each call; its table says where each entry lies, and from which snapshot to which it leads. Rests on how names are compared.
+-- The table of a shelf and its operations. A shelf keeps difference streams, its entries, end to
+-- end in the first bytes of a piece of memory that each call gets. Its table says where each entry
+-- lies, and between which snapshots it leads. Rests on how names are compared.
 use Rattle.std.specs.Prelude.{◌≡◌, ℕ, ◌+◌, ◌-◌, ◌≤◌, Bool, false, ◌||◌, List, [], ◌∷◌, ◌++◌, map, length, take, drop, slice_index_or}
 use Rattle.stream.specs.Verdict.{same}
+use Rattle.table.specs.declared.table.TheConstants.{MOST_ENTRIES}
 
--- one entry: the place of its first byte, how many bytes it has, and the names of the snapshots that it leads from and to
+-- one entry: the place of its first byte, its length, and the names of the snapshots that it leads
+-- from and to.
 pub record Row : Type 0 where
   pub place : ℕ
   pub length : ℕ
   pub from : List ℕ
   pub to : List ℕ
 
--- the name of the snapshot that the base image holds, the entries in order, and the fill, the place where their bytes end
+-- the name of the snapshot that the base image holds, the entries in order, and the fill, the place
+-- where their bytes end
 pub record Table : Type 0 where
   pub base : List ℕ
   pub rows : List Row
@@ -19,7 +23,7 @@ pub record Table : Type 0 where
 abbrev pub empty_table : List ℕ → Table
 empty_table name = record { base = name; rows = []; fill = 0 }
 
--- the place behind an entry's last byte
+-- the place after an entry's last byte
 abbrev pub end_of : Row → ℕ
 end_of r = r.place + r.length
 
@@ -38,7 +42,8 @@ last_name name (r ∷ rs) = last_name r.to rs
 abbrev pub next_name : Table → List ℕ
 next_name t = last_name t.base t.rows
 
--- whether entries have a to name, and whether a name is the base name or an entry's to name
+-- whether an entry leads to a name, and whether a name is taken: by the base or by an entry's to
+-- name
 abbrev pub leads_to : List ℕ → List Row → Bool
 leads_to name [] = false
 leads_to name (r ∷ rs) = same name r.to || leads_to name rs
@@ -50,13 +55,13 @@ is_taken name t = same name t.base || leads_to name t.rows
 abbrev pub fill_after : ℕ → ℕ → ℕ → ℕ → ℕ
 fill_after fill start end n = start + n + (fill - end)
 
--- a row moved, with what it lies behind, from an old place to a new one; its length and names stay
-abbrev pub moved : ℕ → ℕ → Row → Row
-moved old new r = record { place = new + (r.place - old); length = r.length; from = r.from; to = r.to }
+-- a row moved together with the bytes after an old place, which now begin at a new one
+abbrev pub moved_row : ℕ → ℕ → Row → Row
+moved_row old new r = record r { place = new + (r.place - old) }
 
 -- a row with n bytes and another to name
 abbrev pub united_row : ℕ → List ℕ → Row → Row
-united_row n to r = record { place = r.place; length = n; from = r.from; to = to }
+united_row n to r = record r { length = n; to = to }
 
 -- two neighbours as one entry of n bytes
 abbrev pub one_row : ℕ → Row → Row → Row
@@ -64,21 +69,23 @@ one_row n r s = united_row n s.to r
 
 -- a new last row
 abbrev pub append_row : Table → Row → Table
-append_row t r = record { base = t.base; rows = t.rows ++ (r ∷ []); fill = t.fill + r.length }
+append_row t r = record t { rows = t.rows ++ (r ∷ []); fill = t.fill + r.length }
 
--- row i with n bytes and another to name, in the place of rows i and i + 1: the earlier rows stay, the later ones move
+-- row i with n bytes and another to name, in the place of rows i and i + 1: the earlier rows stay,
+-- the later ones move
 abbrev pub take_over : Table → ℕ → ℕ → List ℕ → Table
-take_over t i n to = record {
-  base = t.base;
-  rows = take i t.rows ++ (united_row n to (row_at t i) ∷ map (moved (end_of (row_at t (i + 1))) ((row_at t i).place + n)) (drop (i + 2) t.rows));
+take_over t i n to = record t {
+  rows = take i t.rows
+      ++ (united_row n to (row_at t i)
+      ∷ map (moved_row (end_of (row_at t (i + 1))) ((row_at t i).place + n)) (drop (i + 2) t.rows));
   fill = fill_after t.fill (row_at t i).place (end_of (row_at t (i + 1))) n;
 }
 
 -- the table without row 0, over a base of another name: the others move to the front
 abbrev pub drop_for : Table → List ℕ → Table
-drop_for t name = record {
+drop_for t name = record t {
   base = name;
-  rows = map (moved (end_of (row_at t 0)) 0) (drop 1 t.rows);
+  rows = map (moved_row (end_of (row_at t 0)) 0) (drop 1 t.rows);
   fill = fill_after t.fill 0 (end_of (row_at t 0)) 0;
 }
 
@@ -102,7 +109,7 @@ EndToEnd place (r ∷ rs) end = (r.place ≡ place) × EndToEnd (end_of r) rs en
 -- at most 64 entries, end to end from 0 up to the fill
 pub record LaidOut (t : Table) : Type 0 where
   pub end_to_end : EndToEnd 0 t.rows t.fill
-  pub few : length t.rows ≤ 64
+  pub few : length t.rows ≤ MOST_ENTRIES
 
 -- each row leads from where the one before it leads to
 abbrev pub Chained : List ℕ → List Row → Type 0

@@ -1,10 +1,10 @@
-ghost use Rattle.std.specs.Prelude.{◌≡◌, ◌+◌, ◌-◌, ◌^◌, ◌<◌, ◌≤◌};
-ghost use Rattle.table.specs.Entries.{united_entry, moved_entry};
+ghost use Rattle.std.specs.Prelude.{◌≡◌};
+ghost use Rattle.table.specs.Entries.{united_entry, moved_entry, CanMove};
 
 use crate::name::Name;
 
-// One entry of a shelf: the place of its first byte, how many bytes it has, and the names of the
-// snapshots that it leads from and to.
+/// One entry of a shelf: the place of its first byte, its length in bytes, and the names of the
+/// snapshots that it leads from and to.
 #[derive(Clone, Copy, Default)]
 pub struct Entry {
     pub place: usize,
@@ -14,7 +14,7 @@ pub struct Entry {
 }
 
 impl Entry {
-    // Two streams became one: the entry has its bytes and leads to where it leads.
+    // The entry of a joined stream: another length, and another to name.
     pub(crate) fn unite(&mut self, byte_count: usize, to: Name)
         ensures { self.new ≡ united_entry byte_count to self.old }
     {
@@ -22,9 +22,9 @@ impl Entry {
         self.to = to;
     }
 
-    // What the entry lies behind moved from an old place to a new one, and the entry with it.
+    // The bytes after an old place moved to a new one, and the entry with them.
     pub(crate) fn shift(&mut self, old: usize, new: usize)
-        requires { (old ≤ self.old.place) × (new + (self.old.place - old) < 2 ^ 64) }
+        requires { CanMove old new self.old }
         ensures { self.new ≡ moved_entry old new self.old }
     {
         self.place = new + (self.place - old);

@@ -1,4 +1,4 @@
-// The table of a shelf: where each of its entries lies, and from which snapshot to which it leads.
+//! The table of a shelf: where each of its entries lies, and between which snapshots it leads.
 #![tactic(auto)]
 
 mod entry;

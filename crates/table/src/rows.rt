@@ -20,7 +20,7 @@ pub(crate) fn last_name(base: Name, entries: &[Entry]) -> Name
     entries.last().map_or(base, |last| last.to)
 }
 
-// Moves entries, with what they lie behind, from an old place to a new one.
+// Moves entries together with the bytes after an old place, which now begin at a new one.
 pub(crate) fn shift_all(entries: &mut [Entry], old: usize, new: usize)
     requires { Movable old new entries.old }
     ensures { entries.new ≡ map (moved_entry old new) entries.old }

@@ -6,12 +6,13 @@ use std::marker::Model;
 mod changes;
 mod queries;
 
-// The most entries that a shelf has.
+/// The most entries that a shelf has.
 pub const MOST_ENTRIES: usize = 64;
 
-// The table of a shelf. A shelf keeps difference streams, its entries, end to end at the front of
-// a piece of memory. The table has the name of the snapshot that the base image holds, the entries
-// in order, and the fill, the place where their bytes end. A contract sees it as a Table of specs.
+/// The table of a shelf. A shelf keeps difference streams, its entries, end to end in the first
+/// bytes of a piece of memory. The table has the name of the snapshot that the base image holds,
+/// the entries in order, and the fill, the place where their bytes end. A contract sees it as the
+/// record `Table` of specs/Tables.antt.
 #[derive(Drop)]
 pub struct EntryTable {
     base: Name,
@@ -24,7 +25,7 @@ impl Model for EntryTable {
 
     ghost Value = { Table };
 
-    ghost use Rattle.table.specs.Held.{table_of};
+    ghost use Rattle.table.specs.EntryTables.{table_of};
 
     ghost view = { table_of };
 

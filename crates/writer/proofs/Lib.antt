@@ -1,5 +1,5 @@
 pub mod Tail
 pub mod Opening
-mod Written
+mod Numbers
 mod Accepted
 mod Series

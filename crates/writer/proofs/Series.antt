@@ -1,42 +1,42 @@
 -- A series of calls: what the buffer holds after it, and that a reader takes what it wrote.
 use Rattle.std.proofs.Common.{◌≡◌, ℕ, ◌+◌, ◌≤◌, true, false, List, [], ◌∷◌, ◌++◌, length, take, drop, Ok, sym, refl, ap, ◌∙◌, subst, inl, inr, zero-add, arith}
 use Rattle.std.proofs.lemmas.List.{append-nil, append_assoc, length-append, take_at, drop_at}
-use Rattle.stream.specs.Bytes.{patched}
-use Rattle.stream.specs.Records.{Content, from_name, to_name, image_size, data_at, zeros_at, encoded, encodings, encoded_stream, header, metas}
+use Rattle.stream.specs.Bytes.{buffer_with}
+use Rattle.stream.specs.Records.{Content, from_name, to_name, image_size, data_at, zeros_at, record_bytes, records_bytes, stream_bytes, header, metas}
 use Rattle.stream.specs.Rule.{meta, late_rule}
 use Rattle.stream.specs.Steps.{Pos}
 use Rattle.stream.specs.Verdict.{start, verdict}
-use Rattle.stream.specs.Wellformed.{GoodName, GoodRange, WellFormed, ReadsBack, moved}
+use Rattle.stream.specs.Wellformed.{GoodName, GoodRange, WellFormed, ReadsBack, pos_past}
 use Rattle.stream.specs.Rule.{Data}
-use Rattle.writer.specs.Fields.{opening}
-use Rattle.writer.specs.Calls.{pos_of, first, Finished}
+use Rattle.writer.specs.Fields.{opening, end_record}
+use Rattle.writer.specs.Calls.{writer_pos, pos_after_names, Finished}
 use Rattle.writer.specs.Whole.{Writes, no_more, write, zero, refused, not_ended, EndedIsStream}
-use Rattle.writer.specs.declared.states.Recording.{Recording}
-use Rattle.writer.specs.declared.states.Ended.{Ended}
+use Rattle.writer.specs.declared.recording.Recording.{Recording}
+use Rattle.writer.specs.declared.ended.Ended.{Ended}
 use Rattle.stream.proofs.Meanings.{encodings_append}
 use Rattle.writer.proofs.Tail.{patched_on, patched_none, length_patched}
 use Rattle.writer.proofs.Accepted.{OpenedBy, names_accepted, Grown, record_accepted, end_accepted, record_refused, end_refused, Unchanged}
 
 -- a buffer that held xs₀ holds the bytes bs, up to the place n
 record Filled (xs₀ xs : List ℕ) (n : ℕ) (bs : List ℕ) : Type 0 where
-  pub buffer : xs ≡ patched xs₀ 0 bs
+  pub buffer : xs ≡ buffer_with xs₀ 0 bs
   pub place : n ≡ length bs
   pub within : n ≤ length xs₀
 
--- and more bytes behind them
-more : (xs₀ xs ys bs cs : List ℕ) (n : ℕ) → Filled xs₀ xs n bs → n + length cs ≤ length xs → ys ≡ patched xs n cs → Filled xs₀ ys (n + length cs) (bs ++ cs)
+-- and more bytes after them
+more : (xs₀ xs ys bs cs : List ℕ) (n : ℕ) → Filled xs₀ xs n bs → n + length cs ≤ length xs → ys ≡ buffer_with xs n cs → Filled xs₀ ys (n + length cs) (bs ++ cs)
 more xs₀ xs ys bs cs n f h e =
     let m = f.place in
     let w = f.within in
     let l : length xs ≡ length xs₀ = ap length f.buffer ∙ length_patched xs₀ bs 0 (omega arith) in
     record {
-      buffer = e ∙ ap (λ q. patched q n cs) f.buffer ∙ ap (λ k. patched (patched xs₀ 0 bs) k cs) (m ∙ sym (zero-add (length bs))) ∙ patched_on xs₀ bs cs 0 (omega arith);
+      buffer = e ∙ ap (λ q. buffer_with q n cs) f.buffer ∙ ap (λ k. buffer_with (buffer_with xs₀ 0 bs) k cs) (m ∙ sym (zero-add (length bs))) ∙ patched_on xs₀ bs cs 0 (omega arith);
       place = omega (arith, length-append bs cs);
       within = omega arith;
     }
 
--- the place behind a record
-place_moved : (p : Pos) (c : Content) → (moved p c Data).place ≡ p.place + length (encoded c)
+-- the place after a record
+place_moved : (p : Pos) (c : Content) → (pos_past p c Data).place ≡ p.place + length (record_bytes c)
 place_moved p (from_name name) = omega arith
 place_moved p (to_name name) = omega arith
 place_moved p (image_size n) = omega arith
@@ -44,25 +44,25 @@ place_moved p (data_at offset bytes) = omega arith
 place_moved p (zeros_at offset n) = omega arith
 
 -- a record that was accepted, and a call that was refused
-grown : {w v : Recording} {xs ys : List ℕ} {c : Content} (xs₀ bs : List ℕ) → Grown w xs c v ys → Filled xs₀ xs w.place bs → Filled xs₀ ys v.place (bs ++ encoded c)
+grown : {w v : Recording} {xs ys : List ℕ} {c : Content} (xs₀ bs : List ℕ) → Grown w xs c v ys → Filled xs₀ xs w.place bs → Filled xs₀ ys v.place (bs ++ record_bytes c)
 grown {w} {v} {xs} {ys} {c} xs₀ bs g f =
-    let P : ℕ → Type 0 = λ n. Filled xs₀ ys n (bs ++ encoded c) in
-    let e : v.place ≡ w.place + length (encoded c) = ap (λ (p : Pos). p.place) g.stands ∙ place_moved (pos_of w) c in
-    subst P (sym e) (more xs₀ xs ys bs (encoded c) w.place f g.within g.buffer)
+    let P : ℕ → Type 0 = λ n. Filled xs₀ ys n (bs ++ record_bytes c) in
+    let e : v.place ≡ w.place + length (record_bytes c) = ap (λ (p : Pos). p.place) g.stands ∙ place_moved (writer_pos w) c in
+    subst P (sym e) (more xs₀ xs ys bs (record_bytes c) w.place f g.within g.buffer)
 
 stayed : {w v : Recording} {xs ys : List ℕ} (xs₀ bs : List ℕ) → Unchanged w xs v ys → Filled xs₀ xs w.place bs → Filled xs₀ ys v.place bs
 stayed {w} {v} xs₀ bs e f =
     let l : v.place ≡ w.place = ap (λ (p : Pos). p.place) e.stands in
     record { buffer = e.buffer ∙ f.buffer; place = l ∙ f.place; within = let h = f.within in omega arith }
 
--- the bytes of the accepted records lie one behind the other
+-- the bytes of the accepted records follow one another
 series_filled : {u w : Recording} {xs zs : List ℕ} {cs : List Content} (xs₀ bs : List ℕ) → Writes u xs cs w zs → Filled xs₀ xs u.place bs
-    → Filled xs₀ zs w.place (bs ++ encodings cs)
+    → Filled xs₀ zs w.place (bs ++ records_bytes cs)
 series_filled xs₀ bs no_more f = rw (append-nil bs) f
 series_filled {cs = c ∷ cs} xs₀ bs (write r s) f =
-    rw (← append_assoc bs (encoded c) (encodings cs)) (series_filled xs₀ (bs ++ encoded c) s (grown xs₀ bs (record_accepted r) f))
+    rw (← append_assoc bs (record_bytes c) (records_bytes cs)) (series_filled xs₀ (bs ++ record_bytes c) s (grown xs₀ bs (record_accepted r) f))
 series_filled {cs = c ∷ cs} xs₀ bs (zero r s) f =
-    rw (← append_assoc bs (encoded c) (encodings cs)) (series_filled xs₀ (bs ++ encoded c) s (grown xs₀ bs (record_accepted r) f))
+    rw (← append_assoc bs (record_bytes c) (records_bytes cs)) (series_filled xs₀ (bs ++ record_bytes c) s (grown xs₀ bs (record_accepted r) f))
 series_filled xs₀ bs (refused r s) f = series_filled xs₀ bs s (stayed xs₀ bs (record_refused r) f)
 series_filled xs₀ bs (not_ended r s) f = series_filled xs₀ bs s (stayed xs₀ bs (end_refused r) f)
 
@@ -73,17 +73,17 @@ record Alike (p q : Pos) : Type 0 where
   pub end : p.end ≡ q.end
   pub count : p.count ≡ q.count
 
-alike_moved : {p q : Pos} (c : Content) → Alike p q → Alike (moved p c Data) (moved q c Data)
+alike_moved : {p q : Pos} (c : Content) → Alike p q → Alike (pos_past p c Data) (pos_past q c Data)
 alike_moved (from_name name) a = record { ready = refl; size = a.size; end = a.end; count = a.count }
 alike_moved (to_name name) a = record { ready = refl; size = a.size; end = a.end; count = a.count }
 alike_moved (image_size n) a = record { ready = refl; size = refl; end = a.end; count = a.count }
 alike_moved (data_at offset bytes) a = record { ready = refl; size = a.size; end = refl; count = ap (λ n. n + 1) a.count }
 alike_moved (zeros_at offset n) a = record { ready = refl; size = a.size; end = refl; count = ap (λ n. n + 1) a.count }
 
-alike_grown : {w v : Recording} {xs ys : List ℕ} {c : Content} (p : Pos) → Grown w xs c v ys → Alike p (pos_of w) → Alike (moved p c Data) (pos_of v)
-alike_grown {c = c} p g a = subst (Alike (moved p c Data)) (sym g.stands) (alike_moved c a)
+alike_grown : {w v : Recording} {xs ys : List ℕ} {c : Content} (p : Pos) → Grown w xs c v ys → Alike p (writer_pos w) → Alike (pos_past p c Data) (writer_pos v)
+alike_grown {c = c} p g a = subst (Alike (pos_past p c Data)) (sym g.stands) (alike_moved c a)
 
-alike_stayed : {w v : Recording} {xs ys : List ℕ} (p : Pos) → Unchanged w xs v ys → Alike p (pos_of w) → Alike p (pos_of v)
+alike_stayed : {w v : Recording} {xs ys : List ℕ} (p : Pos) → Unchanged w xs v ys → Alike p (writer_pos w) → Alike p (writer_pos v)
 alike_stayed p e a = subst (Alike p) (sym e.stands) a
 
 range_alike : {p q : Pos} (offset n : ℕ) → Alike p q → GoodRange q offset n → GoodRange p offset n
@@ -94,7 +94,7 @@ range_alike offset n a g =
     (omega arith, g.1, omega arith, omega arith)
 
 -- the accepted records are well formed for a reader that stands where the writer stands
-series_formed : {u w : Recording} {xs zs : List ℕ} {cs : List Content} (p : Pos) → Writes u xs cs w zs → Alike p (pos_of u) → WellFormed p cs
+series_formed : {u w : Recording} {xs zs : List ℕ} {cs : List Content} (p : Pos) → Writes u xs cs w zs → Alike p (writer_pos u) → WellFormed p cs
 series_formed p no_more a = a.ready
 series_formed p (write r s) a =
     let g = record_accepted r in (Data, a.ready, range_alike _ _ a g.good, series_formed _ s (alike_grown p g a))
@@ -103,9 +103,9 @@ series_formed p (zero r s) a =
 series_formed p (refused r s) a = series_formed p s (alike_stayed p (record_refused r) a)
 series_formed p (not_ended r s) a = series_formed p s (alike_stayed p (end_refused r) a)
 
--- behind the names and the size a reader stands where the writer stands
-opened_alike : (p : Pos) (from to : List ℕ) (size : ℕ) (w : Recording) → pos_of w ≡ first from to size
-    → late_rule p.state ≡ Ok Data → p.size ≡ size → p.end ≡ 0 → p.count ≡ 0 → Alike p (pos_of w)
+-- after the names and the size a reader stands where the writer stands
+opened_alike : (p : Pos) (from to : List ℕ) (size : ℕ) (w : Recording) → writer_pos w ≡ pos_after_names from to size
+    → late_rule p.state ≡ Ok Data → p.size ≡ size → p.end ≡ 0 → p.count ≡ 0 → Alike p (writer_pos w)
 opened_alike p from to size w e r s d n = subst (Alike p) (sym e) (record { ready = r; size = s; end = d; count = n })
 
 -- names, size and accepted records are well formed
@@ -120,10 +120,10 @@ whole_formed (b ∷ bs) to size {first = w} o s =
     (meta true false false, refl, g, (meta true true false, refl, o.to_good, (meta true true true, refl, o.sized, f)))
 
 -- header, metadata, records and end are the stream
-stream_is : (ms cs : List Content) → ((header ++ encodings ms) ++ encodings cs) ++ (101 ∷ []) ≡ encoded_stream (ms ++ cs)
-stream_is ms cs = ap (λ t. header ++ (t ++ (101 ∷ []))) (sym (encodings_append ms cs))
+stream_is : (ms cs : List Content) → ((header ++ records_bytes ms) ++ records_bytes cs) ++ (end_record) ≡ stream_bytes (ms ++ cs)
+stream_is ms cs = ap (λ t. header ++ (t ++ (end_record))) (sym (encodings_append ms cs))
 
--- the buffer up to the place, and behind it
+-- the buffer up to the place, and after it
 front : {xs₀ xs : List ℕ} {n : ℕ} {bs : List ℕ} → Filled xs₀ xs n bs → (take n xs ≡ bs) × (drop n xs ≡ drop n xs₀)
 front {xs₀} {xs} {n} {bs} f =
     let e = f.buffer in
@@ -135,18 +135,18 @@ front {xs₀} {xs} {n} {bs} f =
 -- what the buffer holds when the stream has ended
 all_filled : (from to : List ℕ) (size : ℕ) (cs : List Content) (first last : Recording) (done : Ended) (xs₀ xs ys zs : List ℕ)
     → OpenedBy xs₀ from to size first xs → Writes first xs cs last ys → Finished last ys (Ok done) zs
-    → Filled xs₀ zs done.length (encoded_stream (metas from to size ++ cs))
+    → Filled xs₀ zs done.length (stream_bytes (metas from to size ++ cs))
 all_filled from to size cs first last done xs₀ xs ys zs o s d =
     let b = opening from to size in
     let e = end_accepted d in
     let w = o.within in
     let none : Filled xs₀ xs₀ 0 [] = record { buffer = sym (patched_none xs₀ 0); place = refl; within = omega arith } in
     let P : ℕ → Type 0 = λ n. Filled xs₀ xs n b in
-    let Q : ℕ → Type 0 = λ n. Filled xs₀ zs n (encoded_stream (metas from to size ++ cs)) in
+    let Q : ℕ → Type 0 = λ n. Filled xs₀ zs n (stream_bytes (metas from to size ++ cs)) in
     let begun = more xs₀ xs₀ xs [] b 0 none (omega arith) o.buffer in
     let placed : 0 + length b ≡ first.place = zero-add (length b) ∙ sym (ap (λ (p : Pos). p.place) o.stands) in
     let filled = series_filled xs₀ b s (subst P placed begun) in
-    subst Q (sym e.0) (rw (← stream_is (metas from to size) cs) (more xs₀ ys zs (b ++ encodings cs) (101 ∷ []) last.place filled e.1 e.2))
+    subst Q (sym e.0) (rw (← stream_is (metas from to size) cs) (more xs₀ ys zs (b ++ records_bytes cs) (end_record) last.place filled e.1 e.2))
 
 pub ended_is_stream : ReadsBack → EndedIsStream
 ended_is_stream back from to size cs first last done xs₀ xs ys zs h s d =

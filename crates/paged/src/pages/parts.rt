@@ -1,5 +1,7 @@
-ghost use Rattle.std.specs.Prelude.{◌≡◌, ◌+◌, ◌*◌, ◌<◌, ◌≤◌};
-ghost use Rattle.paged.specs.Pages.{reach};
+ghost use Rattle.std.specs.Prelude.{◌≡◌, ◌+◌, ◌*◌, ◌<◌};
+ghost use Rattle.paged.specs.Pages.{bytes_before, PartOf};
+
+use crate::pages::{PAGE, PLACES};
 
 // The part of a range that lies in one page: from which place of the page on, and which bytes of
 // the range they are.
@@ -11,19 +13,20 @@ pub(super) struct Part {
 }
 
 impl Part {
-    // The part in page i, which the range meets or ends at.
+    // The part in page i, which the range meets.
+    #[tactic(auto, using(crate::proofs::Ranges::part_of))]
     pub(super) fn of(offset: usize, count: usize, i: usize) -> Part
-        requires page { i < 65536 }
-        requires meets { (offset < 256 * (i + 1)) × (256 * i ≤ offset + count) }
-        ensures start { result.start ≡ reach offset count i }
-        ensures end { result.end ≡ reach offset count (i + 1) }
-        ensures from { 256 * i + result.from ≡ offset + result.start }
+        requires page { i < PLACES }
+        requires meets { (offset < PAGE * (i + 1)) × (PAGE * i < offset + count) }
+        ensures start { result.start ≡ bytes_before offset count i }
+        ensures end { result.end ≡ bytes_before offset count (i + 1) }
+        ensures part { PartOf offset count i result.start result.end result.from }
     {
-        let from = if i == offset / 256 { offset % 256 } else { 0 };
+        let from = if i == offset / PAGE { offset % PAGE } else { 0 };
         Part {
             from,
-            start: 256 * i + from - offset,
-            end: (256 * (i + 1) - offset).min(count),
+            start: PAGE * i + from - offset,
+            end: (PAGE * (i + 1) - offset).min(count),
         }
     }
 }

@@ -12,8 +12,9 @@ fn zero_block(block: &[u8]) -> bool
     block.iter().fold(0, |bits, byte| bits | byte) == 0
 }
 
-// Whether there are only zeros. It ends at the first block with a non-zero byte.
-// It stays a call: written out in the loops over pages it takes their registers, and long writes took a fifth longer.
+// Whether there are only zeros. It ends at the first block with a non-zero byte. It stays a call:
+// written out in the loops over pages it takes their registers, and long writes took a fifth
+// longer.
 #[inline(never)]
 pub(super) fn all_zero(bytes: &[u8]) -> bool
     ensures { result ≡ blank bytes.now }

@@ -1,17 +1,17 @@
 ghost use Rattle.std.specs.Prelude.{◌≡◌, min, take};
-ghost use Rattle.store.specs.Stores.{write_outcome, zero_outcome, resize_outcome};
-ghost use Rattle.store.specs.Memory.{flat_room, flat_set};
-ghost use Rattle.store.specs.Flat.{flat_memory, flat_image, flat_holds, flat_laws, PastKept};
+ghost use Rattle.store.specs.Memory.{MemoryRest, flat_room, flat_set};
+ghost use Rattle.store.specs.Flat.{flat_memory, flat_image, flat_holds, flat_past, flat_laws};
 
 use crate::contract::Store;
 use crate::flat::FlatImage;
 use crate::flat::changes::room;
 use crate::range::check_range;
 use fault::{Cause, Fault};
+use std::mem;
 
 impl<'a> FlatImage<'a> {
-    // The image that the memory's first bytes are. A size that the memory does not hold becomes the
-    // largest that it does.
+    /// The image that the memory's first bytes are. A size that the memory does not hold becomes
+    /// the largest that it does.
     pub fn open(bytes: &'a mut [u8], size: u64) -> FlatImage<'a>
         ensures lender { result.bytes.ghost_name ≡ bytes.entry.ghost_name }
         ensures memory { flat_memory result ≡ bytes.old }
@@ -22,13 +22,15 @@ impl<'a> FlatImage<'a> {
         FlatImage { bytes, size }
     }
 
-    // Gives the memory back.
-    pub fn close(self) -> &'a mut [u8]
+    /// Gives the memory back.
+    pub fn close(mut self) -> &'a mut [u8]
         ensures lender { result.ghost_name ≡ self.entry.bytes.ghost_name }
         ensures memory { result.now ≡ flat_memory self.entry }
     {
-        let FlatImage { bytes, size: _ } = self;
-        bytes
+        // A value with an `impl Drop` cannot be taken apart.
+        self.size = 0;
+        let whole = &mut self;
+        mem::take(&mut whole.bytes)
     }
 }
 
@@ -37,47 +39,35 @@ impl<'a> Store for FlatImage<'a> {
 
     ghost holds = { flat_holds };
 
+    ghost Rest = { MemoryRest };
+
+    ghost past = { flat_past };
+
     ghost laws = { flat_laws };
 
     fn size(&self) -> u64 {
         self.size
     }
 
-    // (Of one shape with `write`: the range is checked, then another function does the work.)
     fn read(&self, offset: u64, buf: &mut [u8]) -> Result<(), Fault> {
         check_range(offset, buf.len() as u64, self.size)?;
         self.get(offset as usize, buf);
         Ok(())
     }
 
-    fn write(&mut self, offset: u64, bytes: &[u8]) -> Result<(), Fault>
-        ensures same { flat_holds self.new ≡ flat_holds self.old }
-        ensures outcome { (result, flat_image self.new) ≡ write_outcome (flat_holds self.old) (flat_image self.old) offset bytes.now }
-        ensures past { PastKept self.old self.new }
-        ensures lender { self.new.bytes.ghost_name ≡ self.old.bytes.ghost_name }
-    {
+    fn write(&mut self, offset: u64, bytes: &[u8]) -> Result<(), Fault> {
         check_range(offset, bytes.len() as u64, self.size)?;
         self.put(offset as usize, bytes);
         Ok(())
     }
 
-    fn zero(&mut self, offset: u64, length: u64) -> Result<(), Fault>
-        ensures same { flat_holds self.new ≡ flat_holds self.old }
-        ensures outcome { (result, flat_image self.new) ≡ zero_outcome (flat_holds self.old) (flat_image self.old) offset length }
-        ensures past { PastKept self.old self.new }
-        ensures lender { self.new.bytes.ghost_name ≡ self.old.bytes.ghost_name }
-    {
+    fn zero(&mut self, offset: u64, length: u64) -> Result<(), Fault> {
         check_range(offset, length, self.size)?;
         self.clear(offset as usize, length as usize);
         Ok(())
     }
 
-    fn resize(&mut self, size: u64) -> Result<(), Fault>
-        ensures same { flat_holds self.new ≡ flat_holds self.old }
-        ensures outcome { (result, flat_image self.new) ≡ resize_outcome (flat_holds self.old) (flat_image self.old) size }
-        ensures past { PastKept self.old self.new }
-        ensures lender { self.new.bytes.ghost_name ≡ self.old.bytes.ghost_name }
-    {
+    fn resize(&mut self, size: u64) -> Result<(), Fault> {
         if !self.can_resize(size) {
             return Err(Fault::new(Cause::NoRoom, size));
         }

@@ -1,12 +1,10 @@
 ghost use Rattle.std.specs.Prelude.{◌≡◌, ◌+◌, ◌≤◌, length, replicate, nat_le};
-ghost use Rattle.store.specs.Images.{part, overwritten, resized};
-ghost use Rattle.store.specs.Memory.{flat_room, Changed};
-ghost use Rattle.store.specs.Flat.{flat_memory, flat_image, flat_holds};
+ghost use Rattle.store.specs.Images.{part, image_with, image_of_size};
+ghost use Rattle.store.specs.Memory.{flat_room};
+ghost use Rattle.store.specs.Flat.{flat_memory, flat_image, flat_holds, FlatChange};
 
+use crate::contract::LIMIT;
 use crate::flat::FlatImage;
-
-// The largest image: 2^40 bytes. (The largest size of a stream is the same number; stores know nothing of streams.)
-const LIMIT: u64 = 1 << 40;
 
 // The largest size of an image in a piece of memory.
 pub(super) fn room(bytes: &[u8]) -> u64
@@ -19,7 +17,7 @@ impl<'a> FlatImage<'a> {
     // Whether the memory holds the image at another size.
     pub(super) fn can_resize(&self, size: u64) -> bool
         ensures room { result ≡ nat_le size (flat_room (flat_memory self.now)) }
-        ensures held { result ≡ flat_holds self.now (resized (flat_image self.now) size) }
+        ensures held { result ≡ flat_holds self.now (image_of_size (flat_image self.now) size) }
     {
         size <= room(self.bytes)
     }
@@ -36,9 +34,9 @@ impl<'a> FlatImage<'a> {
     // Puts bytes into the image.
     pub(super) fn put(&mut self, offset: usize, bytes: &[u8])
         requires { offset + length bytes.now ≤ self.old.size }
-        ensures changed { Changed self.old.size (flat_memory self.old) (flat_memory self.new) (overwritten (flat_image self.old) offset bytes.now) }
+        ensures change { FlatChange self.old self.new self.old.size
+            (image_with (flat_image self.old) offset bytes.now) (offset + length bytes.now) }
         ensures size { self.new.size ≡ self.old.size }
-        ensures lender { self.new.bytes.ghost_name ≡ self.old.bytes.ghost_name }
     {
         let end = offset + bytes.len();
         self.bytes[offset..end].copy_from_slice(bytes);
@@ -47,9 +45,9 @@ impl<'a> FlatImage<'a> {
     // Puts zeros into the image.
     pub(super) fn clear(&mut self, offset: usize, count: usize)
         requires { offset + count ≤ self.old.size }
-        ensures changed { Changed self.old.size (flat_memory self.old) (flat_memory self.new) (overwritten (flat_image self.old) offset (replicate count 0)) }
+        ensures change { FlatChange self.old self.new self.old.size
+            (image_with (flat_image self.old) offset (replicate count 0)) (offset + count) }
         ensures size { self.new.size ≡ self.old.size }
-        ensures lender { self.new.bytes.ghost_name ≡ self.old.bytes.ghost_name }
     {
         self.bytes[offset..offset + count].fill(0);
     }
@@ -57,8 +55,8 @@ impl<'a> FlatImage<'a> {
     // Zeros from the size up to a larger one.
     pub(super) fn clear_growth(&mut self, size: usize)
         requires { size ≤ flat_room (flat_memory self.old) }
-        ensures changed { Changed size (flat_memory self.old) (flat_memory self.new) (resized (flat_image self.old) size) }
-        ensures lender { self.new.bytes.ghost_name ≡ self.old.bytes.ghost_name }
+        ensures { FlatChange self.old self.new size
+            (image_of_size (flat_image self.old) size) size }
     {
         let from = size.min(self.size as usize);
         self.bytes[from..size].fill(0);

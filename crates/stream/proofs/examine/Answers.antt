@@ -1,6 +1,6 @@
 use Rattle.std.proofs.Common.{◌≡◌, suc, ◌-◌, length, Ok, sym, ap, ◌∙◌, arith}
 use Rattle.std.proofs.lemmas.Result.{err_from_is_err_and}
-use Rattle.stream.specs.Verdict.{reads, checked}
+use Rattle.stream.specs.Verdict.{reads, check_answer}
 use Rattle.stream.specs.Stands.{pos_of, rest_of}
 use Rattle.stream.proofs.Ran.{begun, reads_on, reads_none, reads_fault, checked_taken}
 use Rattle.stream.proofs.examine.Goals as goal
@@ -8,13 +8,13 @@ use Rattle.stream.proofs.examine.Goals as goal
 pub loop-init : goal.loop-init
 loop-init c =
     let b = begun c.args.stream.now _ c.in_ok-reader.reader c.open.ensures c.in_ok-reader.was in
-    (b.0, (length c.in_ok-reader.reader.bytes.now, let l = ap length b.0 in omega arith, ap checked b.2))
+    (b.0, (length c.in_ok-reader.reader.bytes.now, let l = ap length b.0 in omega arith, ap check_answer b.2))
 
 pub returns-in_err-next : goal.returns-in_err-next
 returns-in_err-next c =
     let y = err_from_is_err_and c.from_residual-in_err-next.result c.from_residual-in_err-next.ensures.1 in
     let f = reads_fault c.loop.invariant.1.0 c.loop.reader c.next.new.self c.next.result _ c.next.ensures c.in_err-next.was in
-    rw (y.1, y.2) (sym (ap checked f) ∙ c.loop.invariant.1.2)
+    rw (y.1, y.2) (sym (ap check_answer f) ∙ c.loop.invariant.1.2)
 
 pub loop-preserved : goal.loop-preserved
 loop-preserved c =
@@ -31,15 +31,15 @@ loop-preserved c =
       (
         k - 1,
         omega arith,
-        ap (λ v. checked (reads v (length new.bytes.now) (pos_of new) (rest_of new))) k'
-            ∙ sym (checked_taken _ (length c.loop.reader.bytes.now) (rest_of c.loop.reader) _ (pos_of new) t.1) ∙ sym (ap checked t.0) ∙ c.loop.invariant.1.2,
+        ap (λ v. check_answer (reads v (length new.bytes.now) (pos_of new) (rest_of new))) k'
+            ∙ sym (checked_taken _ (length c.loop.reader.bytes.now) (rest_of c.loop.reader) _ (pos_of new) t.1) ∙ sym (ap check_answer t.0) ∙ c.loop.invariant.1.2,
       ),
     )
 
 pub returns : goal.returns
 returns c =
     let n = reads_none c.loop.invariant.1.0 c.loop.reader c.next.new.self c.next.result c.next.ensures (c.in_ok-next.was ∙ ap Ok c.in_default.is) in
-    sym (ap checked n) ∙ c.loop.invariant.1.2
+    sym (ap check_answer n) ∙ c.loop.invariant.1.2
 
 pub loop-smaller : goal.loop-smaller
 loop-smaller c =

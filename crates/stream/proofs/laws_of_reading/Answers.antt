@@ -1,8 +1,10 @@
+use Rattle.std.proofs.Common.{refl}
 use Rattle.stream.proofs.Back.{accepted_is_stream}
 use Rattle.stream.proofs.Forth.{reads_back}
 use Rattle.stream.proofs.Refused.{refused_exactly}
+use Rattle.stream.proofs.Refusing.{refuses_exactly}
 use Rattle.stream.proofs.Sounds.{accepted_exactly, sound_exactly}
-use Rattle.stream.proofs.Told.{places_tell}
+use Rattle.stream.proofs.Told.{places_match}
 use Rattle.stream.proofs.laws_of_reading.Goals as goal
 
 pub returns : goal.returns
@@ -12,6 +14,8 @@ returns c =
       is_stream = accepted_is_stream;
       accepted = accepted_exactly;
       refused = refused_exactly;
+      refusals = refuses_exactly;
       sound = sound_exactly;
-      places_tell = places_tell;
+      places_match = places_match;
+      limits = record { records = refl; name = refl; size = refl; name_head = refl; size_head = refl; range_head = refl };
     }

@@ -6,13 +6,14 @@ ghost use Rattle.table.specs.Tables.{empty_table, append_row, take_over, drop_fo
 use crate::entry::Entry;
 use crate::name::Name;
 use crate::rows::shift_all;
-use crate::table::EntryTable;
+use crate::table::{EntryTable, MOST_ENTRIES};
 use arrayvec::ArrayVec;
+use stream::LONGEST_NAME;
 
 impl EntryTable {
-    // A table without entries.
+    /// A table without entries.
     pub fn new(base: &[u8]) -> EntryTable
-        requires { length base.now ≤ 64 }
+        requires { length base.now ≤ «LONGEST_NAME» }
         ensures { result ≡ empty_table base.now }
     {
         EntryTable {
@@ -22,10 +23,10 @@ impl EntryTable {
         }
     }
 
-    // A new last entry, whose bytes lie at the fill.
+    /// Adds a last entry, whose bytes lie at the fill.
     pub fn add(&mut self, byte_count: usize, from: &[u8], to: &[u8])
-        requires room { length self.old.rows < 64 }
-        requires names { (length from.now ≤ 64) × (length to.now ≤ 64) }
+        requires room { length self.old.rows < «MOST_ENTRIES» }
+        requires names { (length from.now ≤ «LONGEST_NAME») × (length to.now ≤ «LONGEST_NAME») }
         requires fits { self.old.fill + byte_count < 2 ^ 64 }
         ensures { self.new ≡ add_row self.old byte_count from.now to.now }
     {
@@ -38,7 +39,7 @@ impl EntryTable {
         self.append(entry);
     }
 
-    // Entries i and i + 1 become one of so many bytes, and the later ones move.
+    /// Makes entries i and i + 1 one of `byte_count` bytes; the later ones move.
     pub fn unite(&mut self, i: usize, byte_count: usize)
         requires two { i + 1 < length self.old.rows }
         requires fits { (unite_rows self.old i byte_count).fill < 2 ^ 64 }
@@ -48,7 +49,7 @@ impl EntryTable {
         self.take_over(i, byte_count, later.to);
     }
 
-    // Entry 0 leaves, its to name becomes the base name, and the later ones move to the front.
+    /// Removes entry 0: its to name becomes the base name, and the later ones move to the front.
     pub fn drop_first(&mut self)
         requires { 0 < length self.old.rows }
         ensures { self.new ≡ drop_row self.old }
@@ -57,9 +58,9 @@ impl EntryTable {
         self.drop_for(first.to);
     }
 
-    // The entry, which lies at the fill, becomes the last one.
+    // Adds an entry, which lies at the fill, as the last one.
     fn append(&mut self, entry: Entry)
-        requires room { length self.old.rows < 64 }
+        requires room { length self.old.rows < «MOST_ENTRIES» }
         requires place { entry.place ≡ self.old.fill }
         requires fits { self.old.fill + entry.length < 2 ^ 64 }
         ensures { self.new ≡ append_row self.old (row_of entry) }
@@ -68,7 +69,7 @@ impl EntryTable {
         self.fill += entry.length;
     }
 
-    // Entry i has other bytes and another to name, and the entry after it leaves.
+    // Gives entry i another length and another to name, and removes the entry after it.
     fn take_over(&mut self, i: usize, byte_count: usize, to: Name)
         requires two { i + 1 < length self.old.rows }
         requires fits { (unite_rows self.old i byte_count).fill < 2 ^ 64 }
@@ -84,7 +85,7 @@ impl EntryTable {
         self.fill = new + (self.fill - old);
     }
 
-    // Entry 0 leaves, and the base has another name.
+    // Removes entry 0, and gives the base another name.
     fn drop_for(&mut self, base: Name)
         requires { 0 < length self.old.rows }
         ensures { self.new ≡ drop_for self.old (name_of base) }

@@ -9,8 +9,9 @@ use crate::rows::{last_name, leads_to};
 use crate::table::EntryTable;
 
 impl EntryTable {
-    // How many entries there are. (Callers see a table's model and not its invariant: so what holds of
-    // every table is told here and where entries are handed out.)
+    /// How many entries there are.
+    // Callers see a table's model and not its invariant, so the clauses say what holds of every
+    // table.
     pub fn count(&self) -> usize
         ensures count { result ≡ length self.now.rows }
         ensures laid_out { LaidOut self.now }
@@ -18,21 +19,21 @@ impl EntryTable {
         self.entries.len()
     }
 
-    // Where the entries' bytes end.
+    /// The place where the entries' bytes end.
     pub fn fill(&self) -> usize
         ensures { result ≡ self.now.fill }
     {
         self.fill
     }
 
-    // The name of the snapshot that the base image holds.
+    /// The name of the snapshot that the base image holds.
     pub fn base(&self) -> Name
         ensures { name_of result ≡ self.now.base }
     {
         self.base
     }
 
-    // The entries in order.
+    /// The entries in order.
     pub fn entries(&self) -> &[Entry]
         ensures rows { map row_of result.now ≡ self.now.rows }
         ensures laid_out { LaidOut self.now }
@@ -40,26 +41,27 @@ impl EntryTable {
         self.entries.as_slice()
     }
 
-    // Entry i. It lies within the fill, and the next one begins where it ends.
-    #[tactic(auto, using(std::proofs::lemmas::Grind::common_steps, crate::proofs::Held::inside, crate::proofs::Held::next))]
+    /// Entry i.
+    #[tactic(auto, using(std::proofs::lemmas::Grind::common_steps, crate::proofs::EntryRows::inside, crate::proofs::EntryRows::next))]
     pub fn entry(&self, i: usize) -> Entry
         requires { i < length self.now.rows }
         ensures row { row_of result ≡ row_at self.now i }
         ensures inside { result.place + result.length ≤ self.now.fill }
-        ensures next { i + 1 < length self.now.rows → (row_at self.now (i + 1)).place ≡ result.place + result.length }
+        ensures next { i + 1 < length self.now.rows
+            → (row_at self.now (i + 1)).place ≡ result.place + result.length }
         ensures laid_out { LaidOut self.now }
     {
         self.entries[i]
     }
 
-    // The name that the next stream has to lead from.
+    /// The name that the next stream has to lead from.
     pub fn next_name(&self) -> Name
         ensures { name_of result ≡ next_name self.now }
     {
         last_name(self.base, &self.entries)
     }
 
-    // Whether the name is the base name or an entry's to name.
+    /// Whether the name is the base name or an entry's to name.
     pub fn is_taken(&self, name: &[u8]) -> bool
         ensures { result ≡ is_taken name.now self.now }
     {

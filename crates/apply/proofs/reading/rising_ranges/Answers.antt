@@ -16,4 +16,4 @@ returns c =
     let s = c.args.stream in
     let e = c.find_ranges.ensures in
     let P : List (Run RangeMark) → Type 0 = λ rs. Rising 0 rs s.sheet.size in
-    record { within = e.within; rising = subst P (sym e.ranges) (part_ranges_rise s.sheet.runs.now s.sheet.size (omega arith)); ranges = e.ranges }
+    record { within = e.few; rising = subst P (sym e.found) (part_ranges_rise s.sheet.runs.now s.sheet.size (omega arith)); ranges = e.found }

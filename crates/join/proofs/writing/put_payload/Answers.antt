@@ -1,11 +1,12 @@
 use Rattle.std.proofs.Common.{◌≡◌, ◌-◌, ◌^◌, ◌<◌, ◌≤◌, ◌++◌, length, sym, ap, ◌∙◌, arith, length-drop, length-take, rules}
 use Rattle.overlay.specs.Marks.{payload_moves}
 use Rattle.overlay.proofs.Walking.{left_on, left_further}
-use Rattle.stream.specs.Bytes.{patched}
+use Rattle.stream.specs.Bytes.{buffer_with}
 use Rattle.stream.specs.Difference.{payload_at}
 use Rattle.writer.proofs.Tail.{lent_on}
-use Rattle.join.specs.Parts.{joined_cells, held_bytes}
-use Rattle.join.proofs.Payloads.{piece_found, even_left, payload_to, length_payload, length_cells}
+use Rattle.join.specs.Parts.{joined_cells, named_bytes}
+use Rattle.join.proofs.Payloads.{piece_found, even_left, payload_to, length_payload}
+use Rattle.stream.proofs.Ranged.{length_cells}
 use Rattle.join.proofs.writing.put_payload.Goals as goal
 
 pub put_part-requires : goal.put_part-requires
@@ -42,12 +43,12 @@ loop-pos-preserved c =
     let f = piece_found e l runs j.sheet.size j.placed short brief c.args.run pos stop c.look-piece.result even c.requires.alike c.requires.kind i.from on (omega arith) (omega arith) in
     let lc : length cells ≡ j.sheet.size = length_cells e l runs j.sheet.size in
     let a : length (payload_at cells o (pos - o)) ≡ pos - o = length_payload cells o (pos - o) (omega (arith, c.requires.alike.within)) in
-    let b : length (held_bytes e l state (stop - pos)) ≡ stop - pos = sym (ap length f.is) ∙ length_payload cells pos (stop - pos) (omega (arith, c.requires.alike.within)) in
-    let w = lent_on c.args.tail.now c.loop-pos.tail c.put_part.new.tail (payload_at cells o (pos - o)) (held_bytes e l state (stop - pos)) 0 (pos - o) i.put (omega arith) (omega arith) c.put_part.ensures in
+    let b : length (named_bytes e l state (stop - pos)) ≡ stop - pos = sym (ap length f.is) ∙ length_payload cells pos (stop - pos) (omega (arith, c.requires.alike.within)) in
+    let w = lent_on c.args.tail.now c.loop-pos.tail c.put_part.new.tail (payload_at cells o (pos - o)) (named_bytes e l state (stop - pos)) 0 (pos - o) i.put (omega arith) (omega arith) c.put_part.ensures in
     let next : c.loop-pos.pos ≤ c.min-stop.result = omega arith in
     record {
       from = omega arith;
       to = omega arith;
       left = record { size = size; runs = left_on payload_moves runs pos stop c.skip-rest.result.runs.now next left };
-      put = w ∙ ap (λ q. patched c.args.tail.now 0 q) (ap (λ q. payload_at cells o (pos - o) ++ q) (sym f.is) ∙ payload_to cells o pos stop i.from (omega arith));
+      put = w ∙ ap (λ q. buffer_with c.args.tail.now 0 q) (ap (λ q. payload_at cells o (pos - o) ++ q) (sym f.is) ∙ payload_to cells o pos stop i.from (omega arith));
     }

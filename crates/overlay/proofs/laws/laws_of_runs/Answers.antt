@@ -4,6 +4,6 @@ use Rattle.overlay.proofs.laws.laws_of_runs.Goals as goal
 
 pub returns : goal.returns
 returns g c = record {
-  one_runs = one_runs g.M.Mark.moves g.met.M.Mark.still;
-  runs_exist = exists g.M.Mark.moves g.M.Mark.alike g.met.M.Mark.tells g.met.M.Mark.still g.met.M.Mark.further;
+  one_runs = one_runs g.M.Mark.moves g.met.M.Mark.laws.still;
+  runs_exist = exists g.M.Mark.moves g.M.Mark.alike g.met.M.Mark.laws.decides g.met.M.Mark.laws.still g.met.M.Mark.laws.further;
 }

@@ -1,5 +1,5 @@
 use Rattle.std.proofs.Common.{◌≡◌, ◌+◌, ◌-◌, ◌*◌, ◌≤◌, length, take, drop}
-use Rattle.overlay.specs.Runs.{RunsOf, overlaid_at}
+use Rattle.overlay.specs.Runs.{RunsOf, overlay_state_at}
 use Rattle.overlay.specs.Walks.{Left, edges}
 use Rattle.overlay.proofs.overlays.overlay_pieces.Given as goal
 
@@ -9,7 +9,7 @@ invariant-loop-pos g l =
     record {
       within : l.pos ≤ l.later.size;
       counted : l.k ≤ length l.out;
-      runs : RunsOf m.moves (overlaid_at m.moves m.FILLER l.earlier.runs.now l.earlier.size l.later.runs.now) l.pos (take l.k l.out);
+      runs : RunsOf m.moves (overlay_state_at m.moves m.FILLER l.earlier.runs.now l.earlier.size l.later.runs.now) l.pos (take l.k l.out);
       under_size : l.under.size ≡ l.earlier.size;
       under_left : Left m.moves l.earlier.runs.now l.pos l.under.runs.now;
       over_size : l.over.size ≡ l.later.size;

@@ -1,5 +1,5 @@
 use Rattle.std.proofs.Common.{rules}
-use Rattle.table.proofs.Held.{last_or}
+use Rattle.table.proofs.EntryRows.{last_or}
 use Rattle.table.proofs.rows.last_name.Goals as goal
 use borrow.Author.Tests.{tests}
 

@@ -4,7 +4,7 @@ use Rattle.std.proofs.lemmas.Iterator.Search.{any_from_yields_List}
 use Rattle.stream.specs.Verdict.{same}
 use Rattle.table.specs.Names.{name_of}
 use Rattle.table.specs.declared.entry.Entry.{Entry}
-use Rattle.table.proofs.Held.{leads_to_any}
+use Rattle.table.proofs.EntryRows.{leads_to_any}
 use Rattle.table.proofs.rows.leads_to.Goals as goal
 use borrow.Author.Tests.{tests}
 

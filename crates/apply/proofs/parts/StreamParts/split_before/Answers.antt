@@ -10,8 +10,8 @@ invariant_of-before c =
     let s = c.args.self.sheet in
     record { rising = subst (λ ps. Rising 0 ps s.size) (sym c.split_at.ensures.front) (rising_take 0 s.size c.count_before.result s.runs.now s.rising) }
 
-pub invariant_of-behind : goal.invariant_of-behind
-invariant_of-behind c =
+pub invariant_of-after : goal.invariant_of-after
+invariant_of-after c =
     let s = c.args.self.sheet in
     record { rising = subst (λ ps. Rising 0 ps s.size) (sym c.split_at.ensures.back) (rising_drop s.size c.count_before.result s.runs.now s.rising) }
 

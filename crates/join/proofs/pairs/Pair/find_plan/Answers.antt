@@ -1,21 +1,31 @@
 use Rattle.std.proofs.Common.{ℕ, Ok, sym, ap, ◌∙◌, ap₂, arith}
+use Rattle.overlay.proofs.Filling.{placed}
+use Rattle.stream.specs.Meaning.{ranges}
 use Rattle.join.specs.declared.plans.Plan.{Plan}
-use Rattle.join.specs.Joins.{plan_of, pair_join}
-use Rattle.join.proofs.Kept.{small_size}
-use Rattle.join.proofs.Links.{counted_most, join_rises, join_length_told, limited_ok}
+use Rattle.join.specs.Joins.{pair_join}
+use Rattle.join.specs.Plans.{plan_of}
+use Rattle.stream.proofs.Kept.{small_size}
+use Rattle.join.proofs.Links.{join_rises, join_length_by_ranges, limited_ok}
 use Rattle.join.proofs.pairs.Pair.find_plan.Goals as goal
 
 pub stream_length-requires-clause-rising : goal.stream_length-requires-clause-rising
 stream_length-requires-clause-rising c =
     let p = c.args.self in
-    join_rises p.earlier p.later _ c.in-Some.ensures.ranges.1 (omega (arith, small_size p.later))
+    let f = placed (ranges (pair_join p).cells) c.args.ranges.now c.in-Some.count _ c.join_ranges.new.out c.in-Some.is c.join_ranges.ensures.count c.join_ranges.ensures.places in
+    join_rises p.earlier p.later _ f.firsts (omega (arith, small_size p.later))
 
-pub returns-clause-plan : goal.returns-clause-plan
-returns-clause-plan c =
+pub stream_length-requires-clause-small : goal.stream_length-requires-clause-small
+stream_length-requires-clause-small c = small_size c.args.self.later
+
+pub returns : goal.returns
+returns c =
     let p = c.args.self in
     let d = pair_join p in
-    let got = c.in-Some.ensures.ranges in
-    let few = counted_most _ _ c.in-Some.count (omega arith) got.0 got.1 in
+    let f = placed (ranges d.cells) c.args.ranges.now c.in-Some.count _ c.join_ranges.new.out c.in-Some.is c.join_ranges.ensures.count c.join_ranges.ensures.places in
     let build : ℕ → ℕ → Plan = λ m n. record { count = m; length = n } in
-    let told = c.stream_length.ensures ∙ join_length_told p.earlier p.later _ got.1 (omega (arith, small_size p.later)) in
-    ap Ok (ap₂ build few.0 told) ∙ sym (limited_ok d (plan_of d) few.1)
+    let told = c.stream_length.ensures ∙ join_length_by_ranges p.earlier p.later _ f.firsts (omega (arith, small_size p.later)) in
+    record {
+      plan = ap Ok (ap₂ build f.count told) ∙ sym (limited_ok d (plan_of d) (omega (arith, f.count, f.room)));
+      found = f.firsts;
+      places = c.join_ranges.ensures.places;
+    }

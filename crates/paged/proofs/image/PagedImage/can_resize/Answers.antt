@@ -1,5 +1,5 @@
 use Rattle.std.proofs.Common.{ℕ, ◌*◌, leb, List, sym, ap, ◌∙◌, arith}
-use Rattle.store.specs.Images.{resized}
+use Rattle.store.specs.Images.{image_of_size}
 use Rattle.store.proofs.ImageLaws.{length_resized}
 use Rattle.paged.specs.Pages.{places}
 use Rattle.paged.specs.Paged.{paged_image}
@@ -15,5 +15,5 @@ returns c =
     let few = resized_fills_less (paged_image s) size in
     record {
       room = room;
-      held = room ∙ sym (by_length table s.pages.paging.pool.now (resized (paged_image s) size) (omega (arith, s.counted, s.pages.sound.room)) ∙ ap (λ n. leb n (256 * places table)) (length_resized (paged_image s) size));
+      held = room ∙ sym (by_length table s.pages.paging.pool.now (image_of_size (paged_image s) size) (omega (arith, s.valid.counted, s.pages.sound.room)) ∙ ap (λ n. leb n (256 * places table)) (length_resized (paged_image s) size));
     }

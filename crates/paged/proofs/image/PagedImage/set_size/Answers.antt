@@ -2,8 +2,7 @@ use Rattle.std.proofs.Common.{List, sym, refl, ◌∙◌, ⊎_elim, arith}
 use Rattle.std.proofs.lemmas.List.{get_or-take}
 use Rattle.std.proofs.lemmas.Bool.{cases_lt}
 use Rattle.paged.specs.Pages.{all_pages}
-use Rattle.paged.specs.PageLaws.{length_all}
-use Rattle.paged.proofs.Steps.{kept_none}
+use Rattle.paged.proofs.PageLaws.{length_all}
 use Rattle.paged.proofs.Whole.{valid_of, take_resized}
 use Rattle.paged.proofs.image.PagedImage.set_size.Goals as goal
 
@@ -13,9 +12,9 @@ invariant_of-self c =
     let all : List _ = all_pages s.pages.paging.map.now s.pages.paging.pool.now in
     let v =
     valid_of s.pages.paging.map.now s.pages.paging.pool.now s.pages.paging.spare s.pages.paging.used c.args.size s.pages.sound c.requires.room
-    (λ p h. ⊎_elim (λ low. sym (get_or-take s.size all p 0 low) ∙ c.requires.clear p h) (λ high. s.ended p high) (cases_lt p s.size))
+    (λ p h. ⊎_elim (λ low. sym (get_or-take s.size all p 0 low) ∙ c.requires.clear p h) (λ high. s.valid.ended p high) (cases_lt p s.size))
     in
-    record { long = v.long; counted = v.counted; ended = v.ended; unmapped = v.unmapped }
+    record { valid = v }
 
 pub returns : goal.returns
 returns c =
@@ -24,6 +23,6 @@ returns c =
     let pool = s.pages.paging.pool.now in
     record {
       same = refl;
-      image = take_resized (all_pages table pool) s.size c.args.size (omega (arith, c.requires.room, length_all table pool s.pages.sound.placed.mapped)) s.ended;
-      kept = kept_none table pool;
+      image = take_resized (all_pages table pool) s.size c.args.size (omega (arith, c.requires.room, length_all table pool s.pages.sound.placed.mapped)) s.valid.ended;
+      kept = refl;
     }

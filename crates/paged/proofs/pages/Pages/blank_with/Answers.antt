@@ -1,6 +1,6 @@
 use Rattle.std.proofs.Common.{◌≡◌, ℕ, suc, ◌+◌, ◌-◌, ◌*◌, Bool, true, false, ◌&&◌, List, length, get_or, take, drop, sym, ap, ◌∙◌, arith, length-drop}
 use Rattle.std.proofs.lemmas.List.{take_all}
-use Rattle.store.specs.Images.{overwritten}
+use Rattle.store.specs.Images.{image_with}
 use Rattle.paged.specs.Pages.{all_pages, page_of, page_at, blank}
 use Rattle.paged.proofs.Puts.{page_value, blank_none, blank_in_blank, blank_around, blank_zeros}
 use Rattle.paged.proofs.pages.Pages.blank_with.Goals as goal
@@ -22,7 +22,7 @@ returns-in_default c =
 
 -- around the bytes, the pool page decides
 around : (table pool bytes page : List ℕ) (i from k : ℕ) (f t : Bool) → page_of (all_pages table pool) i ≡ page_at pool (get_or table i 0) → get_or table i 0 ≡ k + 1 → page ≡ take (256 * k + 256 - 256 * k) (drop (256 * k) pool)
-    → blank bytes ≡ true → blank (take from page) ≡ f → blank (drop (from + length bytes) page) ≡ t → blank (overwritten (page_of (all_pages table pool) i) from bytes) ≡ (f && t)
+    → blank bytes ≡ true → blank (take from page) ≡ f → blank (drop (from + length bytes) page) ≡ t → blank (image_with (page_of (all_pages table pool) i) from bytes) ≡ (f && t)
 around table pool bytes page i from k f t is value cut b x y =
     let value' : get_or table i 0 ≡ suc k = omega arith in
     let size : 256 * k + 256 - 256 * k ≡ 256 = omega arith in

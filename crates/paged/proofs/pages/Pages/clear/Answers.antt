@@ -1,10 +1,9 @@
-use Rattle.std.proofs.Common.{◌≡◌, ℕ, ◌+◌, ◌*◌, ◌≤◌, true, List, length, get_or, replicate, ap, ◌∙◌, add-zero, arith}
+use Rattle.std.proofs.Common.{◌≡◌, ℕ, ◌+◌, ◌*◌, ◌≤◌, true, List, length, get_or, replicate, ap, ◌∙◌, add-zero, arith, refl}
 use lib.ListN.{length-replicate}
 use Rattle.std.proofs.lemmas.Bool.{eq-eqb}
-use Rattle.store.specs.Images.{overwritten}
+use Rattle.store.specs.Images.{image_with}
 use Rattle.paged.specs.Pages.{all_pages, page_of, blank}
-use Rattle.paged.specs.PageLaws.{length_all}
-use Rattle.paged.proofs.Steps.{kept_none}
+use Rattle.paged.proofs.PageLaws.{length_all}
 use Rattle.paged.proofs.Puts.{blank_zeroed, kept_page}
 use Rattle.paged.proofs.pages.Pages.clear.Goals as goal
 
@@ -19,6 +18,6 @@ returns-in_default c =
     let whole : 256 * i + 256 ≤ length all = omega (arith, length_all s.map.now s.pool.now c.args.self.now.sound.placed.mapped, c.requires.here) in
     let was : blank (page_of all i) ≡ true = c.args.self.now.sound.filled i c.requires.here ∙ eq-eqb (get_or s.map.now i 0) 0 none in
     record {
-      kept = kept_none s.map.now s.pool.now;
-      pages = kept_page all i 0 zeros (omega arith) whole was (blank_zeroed all i) ∙ ap (λ o. overwritten all o zeros) (add-zero (256 * i));
+      kept = refl;
+      pages = kept_page all i 0 zeros (omega arith) whole was (blank_zeroed all i) ∙ ap (λ o. image_with all o zeros) (add-zero (256 * i));
     }

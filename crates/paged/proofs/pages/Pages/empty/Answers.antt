@@ -1,13 +1,15 @@
 use Rattle.std.proofs.Common.{◌≡◌, ℕ, ◌+◌, ◌*◌, ◌<◌, List, get_or, sym, refl, ◌∙◌, arith}
 use Rattle.std.proofs.lemmas.Bool.{eq-eqb}
-use Rattle.paged.specs.Pages.{all_pages, places, Sound}
+use Rattle.paged.specs.declared.pages.TheConstants.{POOL}
+use Rattle.paged.specs.Pages.{all_pages, places, SoundPages}
 use Rattle.paged.proofs.PageBytes.{all_clear, pages_none, same_set}
 use Rattle.paged.proofs.FilledLaws.{filled_zero, page_blank}
 use Rattle.paged.proofs.Whole.{valid_of}
+use Rattle.paged.proofs.Rest.{rest_kept}
 use Rattle.paged.proofs.pages.Pages.empty.Goals as goal
 
 -- a map of zeros with every page spare
-blank_sound : (table pool spare : List ℕ) → ((i : ℕ) → i < places table → get_or table i 0 ≡ 0) → ((k : ℕ) → k < 65535 → get_or spare k 0 ≡ k) → Sound table pool spare 0
+blank_sound : (table pool spare : List ℕ) → ((i : ℕ) → i < places table → get_or table i 0 ≡ 0) → ((k : ℕ) → k < POOL → get_or spare k 0 ≡ k) → SoundPages table pool spare 0
 blank_sound table pool spare clear own =
     let zeros : (p : ℕ) → get_or (all_pages table pool) p 0 ≡ 0 = λ p. pages_none pool _ p (all_clear table clear) in
     record {
@@ -34,6 +36,8 @@ returns c =
     record {
       valid = valid_of table pool c.all_spare.result 0 0 sound (omega arith) (λ p h. pages_none pool _ p (all_clear table c.clear_map.ensures.clear));
       same = same_set table c.args.map.now pool pool c.clear_map.ensures.len refl;
+      map_lender = refl;
+      pool_lender = refl;
       pool = refl;
-      kept = record { map_length = c.clear_map.ensures.len; pool_length = refl; map_rest = c.clear_map.ensures.rest; pool_rest = refl };
+      past = rest_kept _ _ c.args.map.now pool table pool (record { map_length = c.clear_map.ensures.len; pool_length = refl; map_rest = c.clear_map.ensures.rest; pool_rest = refl });
     }

@@ -1,21 +1,21 @@
 use Rattle.std.proofs.Common.{◌≡◌, ℕ, ◌+◌, ◌*◌, List, length, take, replicate, sym, ap, ◌∙◌, arith, length-take}
 use lib.ListN.{length-replicate}
-use Rattle.store.specs.Images.{overwritten}
+use Rattle.store.specs.Images.{image_with}
 use Rattle.paged.specs.Pages.{all_pages, places}
-use Rattle.paged.specs.PageLaws.{length_all}
+use Rattle.paged.proofs.PageLaws.{length_all}
 use Rattle.paged.proofs.Ranges.{zeros_part, zeros_blank, zeros_fill_less}
 use Rattle.paged.proofs.pages.Pages.put_zeros.Goals as goal
 
-pub returns-then-count-eq256 : goal.returns-then-count-eq256
-returns-then-count-eq256 c =
+pub returns-then-count-eq-PAGE : goal.returns-then-count-eq-PAGE
+returns-then-count-eq-PAGE c =
     let s = c.args.self.now.paging in
     let told = c.clear.ensures in
     let i : ℕ = c.args.i in
     let all : List ℕ = all_pages s.map.now s.pool.now in
-    let start : 256 * i ≡ 256 * i + c.args.from = omega (arith, c.requires.here.1, c.if-count-eq256.true) in
+    let start : 256 * i ≡ 256 * i + c.args.from = omega (arith, c.requires.here.1, c.if-count-eq-PAGE.true) in
     record {
       kept = told.kept;
-      pages = told.pages ∙ ap (λ o. overwritten all o (replicate 256 0)) start ∙ ap (λ n. overwritten all (256 * i + c.args.from) (replicate n 0)) (sym c.if-count-eq256.true);
+      pages = told.pages ∙ ap (λ o. image_with all o (replicate 256 0)) start ∙ ap (λ n. image_with all (256 * i + c.args.from) (replicate n 0)) (sym c.if-count-eq-PAGE.true);
     }
 
 pub put-requires : goal.put-requires
@@ -39,5 +39,5 @@ returns c =
     let told = c.put.ensures in
     record {
       kept = told.kept;
-      pages = told.pages ∙ ap (overwritten (all_pages s.map.now s.pool.now) (256 * c.args.i + c.args.from)) (zeros_part c.args.count (omega (arith, c.requires.here.1)));
+      pages = told.pages ∙ ap (image_with (all_pages s.map.now s.pool.now) (256 * c.args.i + c.args.from)) (zeros_part c.args.count (omega (arith, c.requires.here.1)));
     }

@@ -1,10 +1,9 @@
-use Rattle.std.proofs.Common.{◌≡◌, ℕ, ◌+◌, ◌-◌, ◌*◌, ◌<◌, ◌≤◌, List, length, get_or, take, drop, refl, ap, ◌∙◌, arith, length-drop, length-take}
+use Rattle.std.proofs.Common.{◌≡◌, ℕ, ◌+◌, ◌-◌, ◌≤◌, List, length, get_or, take, drop, refl, ap, ◌∙◌, subst, arith, length-drop, length-take}
 use Rattle.store.specs.Images.{part}
 use Rattle.store.proofs.ImageLaws.{length_overwritten, put_between}
-use Rattle.paged.specs.Pages.{all_pages, reach}
-use Rattle.paged.specs.PageLaws.{length_all}
+use Rattle.paged.specs.Pages.{all_pages, bytes_before, PartOf}
+use Rattle.paged.proofs.PageLaws.{length_all}
 use Rattle.paged.proofs.PageBytes.{read_whole}
-use Rattle.paged.proofs.Ranges.{part_of}
 use Rattle.paged.proofs.Reading.{read_more}
 use Rattle.paged.proofs.pages.Pages.read_range.Goals as goal
 
@@ -25,10 +24,9 @@ loop-i-preserved c =
     let inv = c.loop-i.invariant in
     let told = c.of-part.ensures in
     let same : length buf ≡ count = inv.long in
-    let meets : 256 * i < offset + count = omega (arith, c.loop-i-test.true, c.div_ceil-i-end.ensures) in
-    let is-m : m ≡ reach offset count (i + 1) = told.end ∙ ap (λ n. reach offset n (i + 1)) same in
-    let is-d : d ≡ reach offset count i = told.start ∙ ap (λ n. reach offset n i) same in
-    let p = part_of offset count i d m from c.loop-i.auto.i meets is-d is-m told.from in
+    let is-m : m ≡ bytes_before offset count (i + 1) = told.end ∙ ap (λ n. bytes_before offset n (i + 1)) same in
+    let is-d : d ≡ bytes_before offset count i = told.start ∙ ap (λ n. bytes_before offset n i) same in
+    let p = subst (λ n. PartOf offset n i d m from) same told.part in
     let order = p.order in
     let most : m ≤ length buf = omega (arith, p.most) in
     let fits : offset + m ≤ length all = omega (arith, length_all s.map.now s.pool.now c.args.self.now.sound.placed.mapped, c.requires.inside) in
@@ -47,7 +45,7 @@ returns c =
     let s = c.args.self.now.paging in
     let inv = c.loop-i.invariant in
     let count : ℕ = length c.args.buf.now in
-    let end : reach c.args.offset count c.loop-i.i ≡ count = omega (arith, c.loop-i-test.false, c.div_ceil-i-end.ensures) in
+    let end : bytes_before c.args.offset count c.loop-i.i ≡ count = omega (arith, c.loop-i-test.false, c.div_ceil-i-end.ensures) in
     read_whole (all_pages s.map.now s.pool.now) c.loop-i.buf c.args.offset count inv.long
     (omega (arith, length_all s.map.now s.pool.now c.args.self.now.sound.placed.mapped, c.requires.inside))
     (λ k h. inv.read k (omega (arith, end)))

@@ -3,7 +3,7 @@ use Rattle.std.proofs.lemmas.List.{length-map}
 use Rattle.table.specs.Entries.{moved_entry}
 use Rattle.table.specs.Names.{name_of}
 use Rattle.table.specs.Tables.{LaidOut}
-use Rattle.table.proofs.Closed.{refill_is}
+use Rattle.table.proofs.Removal.{refill_is}
 use Rattle.table.proofs.Steps.{dropped, first_inside, left_moves, dropped_is}
 use Rattle.table.proofs.table.EntryTable.drop_for.Goals as goal
 

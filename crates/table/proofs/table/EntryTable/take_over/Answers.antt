@@ -3,7 +3,7 @@ use Rattle.std.proofs.lemmas.List.{length-map}
 use Rattle.table.specs.Entries.{moved_entry}
 use Rattle.table.specs.Names.{name_of}
 use Rattle.table.specs.Tables.{LaidOut}
-use Rattle.table.proofs.Closed.{lent, closed}
+use Rattle.table.proofs.Removal.{lent, closed}
 use Rattle.table.proofs.Steps.{united, used, later_inside, later_moves, united_is}
 use Rattle.table.proofs.table.EntryTable.take_over.Goals as goal
 

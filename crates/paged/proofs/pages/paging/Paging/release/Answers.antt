@@ -1,26 +1,50 @@
-use Rattle.std.proofs.Common.{◌≡◌, ℕ, suc, ◌+◌, ◌-◌, ◌*◌, ◌<◌, ◌≤◌, List, length, get_or, set, replicate, sym, ap, ◌∙◌, add-zero, arith}
+use Rattle.std.proofs.Common.{◌≡◌, ℕ, suc, ◌+◌, ◌-◌, ◌*◌, ◌<◌, ◌≤◌, true, List, length, get_or, set, replicate, sym, ap, ◌∙◌, add-zero, arith}
 use lib.ListN.{length-replicate}
 use Rattle.std.proofs.lemmas.List.{get_or-set_same, get_or-set_other}
 use Rattle.std.proofs.lemmas.Bool.{eq-eqb, ne_eqb}
-use Rattle.store.specs.Images.{overwritten}
-use Rattle.paged.specs.Pages.{all_pages, places, Sound}
+use Rattle.store.specs.Images.{image_with}
+use Rattle.paged.specs.declared.pages.TheConstants.{POOL}
+use Rattle.paged.specs.Pages.{all_pages, page_of, blank, places, SoundPages}
 use Rattle.paged.proofs.FilledLaws.{weight_one, weight_none}
 use Rattle.paged.proofs.Steps.{placed_release, released, kept_set}
 use Rattle.paged.proofs.Puts.{put_count, sound_put, blank_zeroed}
+use Rattle.paged.proofs.Rest.{rest_kept}
 use Rattle.paged.proofs.pages.paging.Paging.release.Goals as goal
 
 zeros_fit : 0 + length (replicate {A = ℕ} 256 0) ≤ 256
 zeros_fit = omega (arith, length-replicate {A = ℕ} 256 0)
 
--- a place with a pool page makes one page in use
-some_used : (table pool spare : List ℕ) (used i k : ℕ) → Sound table pool spare used → i < places table → get_or table i 0 ≡ suc k → 0 < used
-some_used table pool spare used i k sound here value =
-    omega (
-      arith,
-      put_count table pool spare used i 0 (replicate 256 0) sound here zeros_fit,
-      weight_one _ (ne_eqb (get_or table i 0) 0 (λ e. omega arith)),
-      weight_none _ (blank_zeroed (all_pages table pool) i),
-    )
+-- place i gives pool page k back
+module _ (table pool spare : List ℕ) (used i k : ℕ) (sound : SoundPages table pool spare used) (here : i < places table) (value : get_or table i 0 ≡ suc k) where
+  -- a place with a pool page makes one page in use
+  pub some_used : 0 < used
+  some_used =
+      omega (
+        arith,
+        put_count table pool spare used i 0 (replicate 256 0) sound here zeros_fit,
+        weight_one _ (ne_eqb (get_or table i 0) 0 (λ e. omega arith)),
+        weight_none _ (blank_zeroed (all_pages table pool) i),
+      )
+
+  pub pages_out : length spare ≡ POOL → all_pages (set table i 0) pool ≡ image_with (all_pages table pool) (256 * i) (replicate 256 0)
+  pages_out long = released table pool spare used i k sound.placed here value some_used sound.room long
+
+  pub sound_out : length spare ≡ POOL → SoundPages (set table i 0) pool (set spare (used - 1) k) (used - 1)
+  sound_out long =
+      let zeros : List ℕ = replicate 256 0 in
+      let none : blank (image_with (page_of (all_pages table pool) i) 0 zeros) ≡ true = blank_zeroed (all_pages table pool) i in
+      let count = put_count table pool spare used i 0 zeros sound here zeros_fit in
+      let gone : get_or (set table i 0) i 0 ≡ 0 = get_or-set_same table i 0 0 (omega arith) in
+      let had = weight_one _ (ne_eqb (get_or table i 0) 0 (λ e. omega arith)) in
+      let has-none = weight_none _ (eq-eqb (get_or (set table i 0) i 0) 0 gone) in
+      sound_put table pool spare used i 0 zeros sound here zeros_fit (set table i 0) pool (set spare (used - 1) k) (used - 1)
+      (placed_release table pool spare used i k sound.placed here value some_used sound.room long)
+      (kept_set table pool i 0 here)
+      (pages_out long ∙ ap (λ o. image_with (all_pages table pool) o zeros) (sym (add-zero (256 * i))))
+      (λ j ne. get_or-set_other table i j 0 0 ne)
+      (none ∙ sym (eq-eqb (get_or (set table i 0) i 0) 0 gone))
+      (omega (arith, some_used))
+      (omega (arith, sound.room, weight_none _ none))
 
 pub overflow_sub-self : goal.overflow_sub-self
 overflow_sub-self c =
@@ -30,33 +54,14 @@ overflow_sub-self c =
 pub returns : goal.returns
 returns c =
     let s = c.args.self.now in
-    let table : List ℕ = s.map.now in
-    let pool : List ℕ = s.pool.now in
-    let spare : List ℕ = s.spare in
-    let used : ℕ = s.used in
     let i : ℕ = c.args.i in
-    let k : ℕ = c.args.k in
-    let sound = c.requires.sound in
-    let here : i < places table = c.requires.here.0 in
-    let value : get_or table i 0 ≡ suc k = omega (arith, c.requires.here.1) in
-    let some : 0 < used = some_used table pool spare used i k sound here value in
-    let long : length spare ≡ 65535 = omega arith in
-    let all : List ℕ = all_pages table pool in
-    let zeros : List ℕ = replicate 256 0 in
-    let count = put_count table pool spare used i 0 zeros sound here zeros_fit in
-    let gone : get_or (set table i 0) i 0 ≡ 0 = get_or-set_same table i 0 0 (omega arith) in
-    let had = weight_one _ (ne_eqb (get_or table i 0) 0 (λ e. omega arith)) in
-    let has-none = weight_none _ (eq-eqb (get_or (set table i 0) i 0) 0 gone) in
-    let pages = released table pool spare used i k sound.placed here value some sound.room long in
-    let kept = kept_set table pool i 0 here in
+    let here = c.requires.here.0 in
+    let value : get_or s.map.now i 0 ≡ suc c.args.k = omega (arith, c.requires.here.1) in
+    let long : length s.spare ≡ POOL = omega arith in
     record {
-      sound = sound_put table pool spare used i 0 zeros sound here zeros_fit (set table i 0) pool (set spare (used - 1) k) (used - 1)
-          (placed_release table pool spare used i k sound.placed here value some sound.room long)
-          kept
-          (pages ∙ ap (λ o. overwritten all o zeros) (sym (add-zero (256 * i))))
-          (λ j ne. get_or-set_other table i j 0 0 ne)
-          (blank_zeroed all i ∙ sym (eq-eqb (get_or (set table i 0) i 0) 0 gone))
-          (omega arith)
-          (omega (arith, weight_none _ (blank_zeroed all i)));
-      pages = record { kept = kept; pages = pages };
+      sound = sound_out s.map.now s.pool.now s.spare s.used i c.args.k c.requires.sound here value long;
+      pages = record {
+        kept = rest_kept s.map.ghost_name s.pool.ghost_name s.map.now s.pool.now (set s.map.now i 0) s.pool.now (kept_set s.map.now s.pool.now i 0 here);
+        pages = pages_out s.map.now s.pool.now s.spare s.used i c.args.k c.requires.sound here value long;
+      };
     }

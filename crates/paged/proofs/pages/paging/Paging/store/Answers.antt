@@ -1,11 +1,12 @@
 use Rattle.std.proofs.Common.{◌≡◌, ℕ, suc, ◌+◌, ◌-◌, ◌*◌, ◌<◌, ◌≤◌, false, eqb, List, length, get_or, sym, refl, ap, ◌∙◌, subst, arith}
 use Rattle.std.proofs.lemmas.Bool.{eq-eqb, ne_eqb}
-use Rattle.store.specs.Images.{overwritten}
+use Rattle.store.specs.Images.{image_with}
 use Rattle.store.proofs.ImageLaws.{length_overwritten, put_between}
-use Rattle.paged.specs.Pages.{all_pages, page_of, blank, places, pool_pages, filled_from, Sound, Kept}
+use Rattle.paged.specs.Pages.{all_pages, page_of, blank, places, pool_pages, filled_from, SoundPages}
 use Rattle.paged.proofs.FilledLaws.{weight_one, weight_none}
 use Rattle.paged.proofs.Steps.{stored, placed_over, kept_pool}
 use Rattle.paged.proofs.Puts.{put_count, sound_put}
+use Rattle.paged.proofs.Rest.{rest_kept, Kept}
 use Rattle.paged.proofs.pages.paging.Paging.store.Goals as goal
 
 pub claim-requires : goal.claim-requires
@@ -15,24 +16,25 @@ claim-requires c =
     let none : get_or s.map.now i 0 ≡ 0 = c.in_default.ensures in
     let count = put_count s.map.now s.pool.now s.spare s.used i c.args.from c.args.bytes.now c.requires.sound c.requires.here.0 c.requires.here.1 in
     record {
-      here = (c.requires.here.0, none, c.requires.here.1);
+      here = c.requires.here;
+      none = none;
       filled = c.requires.filled;
       room = omega (arith, weight_none _ (eq-eqb (get_or s.map.now i 0) 0 none), weight_one _ (c.requires.filled), c.requires.room);
       sound = c.requires.sound;
     }
 
 -- the pool page of place i, written in place
-module _ (table pool new spare : List ℕ) (used i k from : ℕ) (bytes : List ℕ) (sound : Sound table pool spare used) (here : i < places table) (inside : from + length bytes ≤ 256) (value : get_or table i 0 ≡ suc k) (put : new ≡ overwritten pool (256 * k + from) bytes) where
+module _ (table pool new spare : List ℕ) (used i k from : ℕ) (bytes : List ℕ) (sound : SoundPages table pool spare used) (here : i < places table) (inside : from + length bytes ≤ 256) (value : get_or table i 0 ≡ suc k) (put : new ≡ image_with pool (256 * k + from) bytes) where
   low : k < pool_pages pool
   low = omega (arith, sound.placed.mapped i here)
 
   pub kept_in : Kept table pool table new
   kept_in = subst (Kept table pool table) (sym put) (kept_pool table pool k from bytes low inside)
 
-  pub pages_in : all_pages table new ≡ overwritten (all_pages table pool) (256 * i + from) bytes
+  pub pages_in : all_pages table new ≡ image_with (all_pages table pool) (256 * i + from) bytes
   pages_in = ap (all_pages table) put ∙ stored table pool i k from bytes sound.placed.mapped sound.placed.apart here value inside
 
-  pub sound_in : blank (overwritten (page_of (all_pages table pool) i) from bytes) ≡ false → filled_from (places table) (overwritten (all_pages table pool) (256 * i + from) bytes) ≤ pool_pages pool → Sound table new spare used
+  pub sound_in : blank (image_with (page_of (all_pages table pool) i) from bytes) ≡ false → filled_from (places table) (image_with (all_pages table pool) (256 * i + from) bytes) ≤ pool_pages pool → SoundPages table new spare used
   sound_in full room =
       let long = ap length put ∙ length_overwritten pool (256 * k + from) bytes (omega (arith, low)) in
       let some : eqb (get_or table i 0) 0 ≡ false = ne_eqb (get_or table i 0) 0 (λ e. omega arith) in
@@ -50,7 +52,7 @@ returns c =
     record {
       sound = sound_in s.map.now s.pool.now _ s.spare s.used c.args.i k from bytes c.requires.sound c.requires.here.0 c.requires.here.1 value put c.requires.filled c.requires.room;
       pages = record {
-        kept = kept_in s.map.now s.pool.now _ s.spare s.used c.args.i k from bytes c.requires.sound c.requires.here.0 c.requires.here.1 value put;
+        kept = rest_kept s.map.ghost_name s.pool.ghost_name s.map.now s.pool.now s.map.now _ (kept_in s.map.now s.pool.now _ s.spare s.used c.args.i k from bytes c.requires.sound c.requires.here.0 c.requires.here.1 value put);
         pages = pages_in s.map.now s.pool.now _ s.spare s.used c.args.i k from bytes c.requires.sound c.requires.here.0 c.requires.here.1 value put;
       };
     }

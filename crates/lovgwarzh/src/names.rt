@@ -1,0 +1,23 @@
+ghost use Rattle.std.specs.Prelude.{◌≡◌, true};
+ghost use Rattle.stream.specs.Steps.{every_printable};
+ghost use Rattle.lovgwarzh.specs.Names.{name_text, name_of_word};
+
+/// A snapshot's name as text, and `-` for the empty one, which is the name before the first
+/// snapshot. The names of a stream are printable.
+#[tactic(auto, using(crate::proofs::Printable::printable_text))]
+pub fn name_text(name: &[u8]) -> &str
+    ensures { every_printable name.now ≡ true → result.now ≡ name_text name.now }
+{
+    match std::str::from_utf8(name) {
+        Ok("") => "-",
+        Ok(text) => text,
+        Err(_) => "?",
+    }
+}
+
+/// The name that a word of the command line stands for: `-` and the empty word are the empty name.
+pub fn name_of(word: &str) -> &[u8]
+    ensures { result.now ≡ name_of_word word.now }
+{
+    if word == "-" { b"" } else { word.as_bytes() }
+}

@@ -1,5 +1,0 @@
--- The digit of a number below 16, as a character's code: 0 to 9 and then a to f. Rests on nothing.
-use Rattle.std.specs.Prelude.{ℕ, ◌+◌, cond, nat_lt}
-
-abbrev pub digit_of : ℕ → ℕ
-digit_of n = cond (nat_lt n 10) (48 + n) (87 + n)
