@@ -1,13 +1,13 @@
-pub mod Inside
-pub mod Ranged
-pub mod Turns
-pub mod Cursors
-mod Parted
+pub mod ImageChanges
+pub mod RangeKinds
+pub mod StepSeries
+pub mod RangeParts
+mod PartFacts
 pub mod Readings
-pub mod Kept
+pub mod KeptPositions
 pub mod Outcomes
-pub mod Stepped
+pub mod StepImages
 pub mod Spans
-pub mod Sounds
-pub mod Covered
-pub mod Lawful
+pub mod SoundRecords
+pub mod StepStates
+pub mod ApplyLaws

@@ -1,12 +1,12 @@
 -- Steps whose ranges lie in the image are refused exactly where the set does not have the result.
 -- Rests on the outcomes of a store's calls.
-use Rattle.std.proofs.Common.{◌≡◌, ℕ, true, false, List, [], ◌∷◌, ◌++◌, Err, sym, refl, ap, ◌∙◌, subst, inl, inr, arith}
+use Rattle.std.proofs.Common.{◌≡◌, ℕ, true, false, List, [], ◌∷◌, ◌++◌, Err, sym, refl, ap, ◌∙◌, subst, inl, inr}
 use Rattle.std.proofs.lemmas.Bool.{cases_Bool}
 use Rattle.fault.specs.Fault.{fault, in_record}
-use Rattle.fault.specs.declared.kinds.Fault.{Fault}
-use Rattle.fault.specs.declared.kinds.Cause.TheVariants.{NoRoom}
+use Rattle.fault.specs.declared.fault.Fault.{Fault}
+use Rattle.fault.specs.declared.cause.Cause.TheVariants.{NoRoom}
 use Rattle.store.specs.Stores.{Images, Outcome, done, outcome_and_then, if_held}
-use Rattle.store.proofs.Outcomes.{held, unheld}
+use Rattle.store.proofs.StoreOutcomes.{held, unheld}
 use Rattle.stream.specs.Records.{Content}
 use Rattle.apply.specs.Steps.{Step}
 use Rattle.apply.specs.Applies.{call_outcome, outcome_in_record, apply_steps}
@@ -33,7 +33,7 @@ module _ (holds : Images) (image : List ℕ) (s : Step) (ss : List Step) (called
   step_refused h = ap next (called holds ∙ unheld holds (fault_place s.1) image (made_by s.1 image) h)
 
 no_done : {C : Type 0} (f : Fault) (b after : List ℕ) → ◌≡◌ {A = Outcome} (Err f, b) (done after) → C
-no_done f b after e = let g = ap (λ o. o.0) e in let z : ◌≡◌ {A = ℕ} 0 1 = cc in absurd (omega arith)
+no_done f b after e = let g = ap (λ o. o.0) e in cc
 
 err_same : (f h : Fault) (b c : List ℕ) → ◌≡◌ {A = Outcome} (Err f, b) (Err h, c) → f ≡ h
 err_same f h b c e = let g = ap (λ o. o.0) e in cc
@@ -68,7 +68,7 @@ module _ (holds : Images) where
               held = (h, t.held);
               stands = t.stands;
               unheld = t.unheld;
-              told = t.told;
+              fault_is = t.fault_is;
             }
         | inr h ↦
             let g = sym (step_refused holds image s ss c.0 h) ∙ e in
@@ -81,7 +81,7 @@ module _ (holds : Images) where
               held = tt;
               stands = same;
               unheld = ap (λ b. holds (made_by s.1 b)) same ∙ h;
-              told = sym (err_same _ f image after g);
+              fault_is = sym (err_same _ f image after g);
             }
       ]
 
@@ -99,5 +99,5 @@ module _ (holds : Images) where
       let u : holds (made_by t.step.1 (made_by_all t.before image)) ≡ false = sym (ap (λ b. holds (made_by t.step.1 b)) t.stands) ∙ t.unheld in
       ap (apply_steps holds image) t.split
       ∙ stops_behind image t.before t.step t.rest (subst P t.split c) t.held u
-      ∙ ap (λ g. (Err g, made_by_all t.before image)) (sym t.told)
+      ∙ ap (λ g. (Err g, made_by_all t.before image)) (sym t.fault_is)
       ∙ ap (λ b. (Err f, b)) (sym t.stands)

@@ -6,8 +6,8 @@ use Rattle.std.proofs.Math.Logic.{∥∥₁_elim, ∥∥₁_map}
 use Rattle.std.proofs.lemmas.Bool.{cond-true, cond-false}
 use mathlib.Core.Sum.{⊎_set}
 use Rattle.fault.specs.Fault.{fault, and_then}
-use Rattle.fault.specs.declared.kinds.Fault.{Fault}
-use Rattle.fault.specs.declared.kinds.Cause.TheVariants.{NamesDiffer}
+use Rattle.fault.specs.declared.fault.Fault.{Fault}
+use Rattle.fault.specs.declared.cause.Cause.TheVariants.{NamesDiffer}
 use Rattle.overlay.specs.declared.payloads.Side.{Side}
 use Rattle.store.specs.Stores.{Images}
 use Rattle.stream.specs.Records.{Content, image_size, from_of}
@@ -17,10 +17,10 @@ use Rattle.stream.specs.Difference.{difference, meaning}
 use Rattle.stream.specs.Streams.{OnSide}
 use Rattle.stream.specs.Verdict.{verdict, same}
 use Rattle.stream.specs.declared.stream.Stream.{Stream}
-use Rattle.stream.proofs.Back.{ok_same}
-use Rattle.stream.proofs.Ranged.{part_ranges_are}
-use Rattle.stream.proofs.Sounds.{never}
-use Rattle.stream.proofs.Sources.{stream_both}
+use Rattle.stream.proofs.ReadRecords.{ok_same}
+use Rattle.stream.proofs.FoundRanges.{part_ranges_are}
+use Rattle.stream.proofs.SoundLists.{never}
+use Rattle.stream.proofs.GatheredRecords.{stream_both}
 use Rattle.apply.specs.Steps.{Step, steps_from, steps}
 use Rattle.apply.specs.Applies.{apply_steps, led_from, apply_read}
 use Rattle.apply.specs.Read.{WellParted, part_steps}

@@ -2,8 +2,8 @@
 -- of a store's calls, and on reading.
 use Rattle.std.specs.Prelude.{◌≡◌, ℕ, if◌then◌else◌, List, [], ◌∷◌, length, Ok, Err, Result}
 use Rattle.fault.specs.Fault.{fault, in_record, fault_by, and_then}
-use Rattle.fault.specs.declared.kinds.Fault.{Fault}
-use Rattle.fault.specs.declared.kinds.Cause.TheVariants.{NamesDiffer}
+use Rattle.fault.specs.declared.fault.Fault.{Fault}
+use Rattle.fault.specs.declared.cause.Cause.TheVariants.{NamesDiffer}
 use Rattle.store.specs.Stores.{Images, Outcome, KeepsPast, done, outcome_and_then, write_outcome, zero_outcome, resize_outcome}
 use Rattle.stream.specs.Records.{Content, from_name, to_name, image_size, data_at, zeros_at, from_of}
 use Rattle.stream.specs.Verdict.{verdict, same}

@@ -3,8 +3,8 @@
 -- of apply, on a store's images and on faults.
 use Rattle.std.specs.Prelude.{◌≡◌, ℕ, ◌<◌, true, false, List, [], ◌∷◌, ◌++◌, length, replicate, None, Err, Option, slice_index, slice_index_or}
 use Rattle.fault.specs.Fault.{fault, in_record}
-use Rattle.fault.specs.declared.kinds.Fault.{Fault}
-use Rattle.fault.specs.declared.kinds.Cause.TheVariants.{NoRoom}
+use Rattle.fault.specs.declared.fault.Fault.{Fault}
+use Rattle.fault.specs.declared.cause.Cause.TheVariants.{NoRoom}
 use Rattle.store.specs.Images.{image_with, image_of_size}
 use Rattle.store.specs.Stores.{Images, done}
 use Rattle.stream.specs.Records.{Content, from_name, to_name, image_size, data_at, zeros_at}
@@ -50,7 +50,7 @@ pub record Stopped (holds : Images) (image : List ℕ) (ss : List Step) (f : Fau
   pub held : AllHeld holds image before
   pub stands : after ≡ made_by_all before image
   pub unheld : holds (made_by step.1 after) ≡ false
-  pub told : f ≡ in_record step.0 (fault NoRoom (fault_place step.1))
+  pub fault_is : f ≡ in_record step.0 (fault NoRoom (fault_place step.1))
 
 -- records are applied in full exactly if the set has the result of each step, and then the image is
 -- what their difference makes of it; else they stop exactly at the first step whose result it does

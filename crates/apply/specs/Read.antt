@@ -3,14 +3,14 @@
 -- faults.
 use Rattle.std.specs.Prelude.{◌≡◌, ℕ, ◌≤◌, Bool, List, ◌∷◌, map, length, take, drop, Ok, Err, Result, nat_lt}
 use Rattle.std.specs.List.{prefix_len}
-use Rattle.fault.specs.declared.kinds.Fault.{Fault}
+use Rattle.fault.specs.declared.fault.Fault.{Fault}
 use Rattle.overlay.specs.declared.runs.Run.{Run}
 use Rattle.overlay.specs.declared.ranges.RangeMark.{RangeMark}
 use Rattle.overlay.specs.declared.payloads.PayloadMark.{PayloadMark}
 use Rattle.overlay.specs.declared.payloads.Side.{Side}
 use Rattle.overlay.specs.Runs.{Rising}
 use Rattle.store.specs.Stores.{Images, Outcome}
-use Rattle.stream.specs.declared.kinds.TheConstants.{MOST_RECORDS}
+use Rattle.stream.specs.declared.limits.TheConstants.{MOST_RECORDS}
 use Rattle.stream.specs.Records.{image_size}
 use Rattle.stream.specs.Places.{run_record}
 use Rattle.stream.specs.Parts.{PayloadIn, PayloadsIn, part_ranges}
@@ -23,14 +23,11 @@ use Rattle.apply.specs.Applies.{apply_steps, led_from}
 abbrev pub PayloadLies : List ℕ → Run PayloadMark → Type 0
 PayloadLies bytes part = (side : Side) × PayloadIn side bytes part.mark part.length
 
-abbrev pub AllLie : List ℕ → List (Run PayloadMark) → Type 0
-AllLie bytes parts = (side : Side) × PayloadsIn side bytes parts
-
 -- the parts of a stream that was read: at most 512, rising up to the size, their payload in the
 -- bytes
 pub record WellParted (bytes : List ℕ) (parts : List (Run PayloadMark)) (size : ℕ) : Type 0 where
   pub rising : Rising 0 parts size
-  pub lie : AllLie bytes parts
+  pub lie : (side : Side) × PayloadsIn side bytes parts
   pub few : length parts ≤ MOST_RECORDS
 
 -- whether a part begins before a position

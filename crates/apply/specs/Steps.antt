@@ -5,7 +5,7 @@ use Rattle.std.specs.List.{filter}
 use Rattle.overlay.specs.declared.runs.Run.{Run}
 use Rattle.overlay.specs.declared.ranges.RangeMark.{RangeMark}
 use Rattle.overlay.specs.declared.ranges.RangeMark.TheVariants as range
-use Rattle.stream.specs.Records.{Content, from_name, to_name, image_size, data_at, zeros_at, data_of, size_in, offset_of}
+use Rattle.stream.specs.Records.{Content, image_size, data_at, zeros_at, data_of, size_in, offset_of}
 use Rattle.stream.specs.Meaning.{cells, ranges}
 
 -- a record with the number of its canonical record
@@ -17,11 +17,8 @@ with_number i cs = map (λ c. (i, c)) cs
 
 -- whether a record is a w, and the w records of a list
 abbrev pub is_write : Content → Bool
-is_write (from_name name) = false
-is_write (to_name name) = false
-is_write (image_size n) = false
 is_write (data_at offset bytes) = true
-is_write (zeros_at offset n) = false
+is_write c = false
 
 abbrev pub writes : List Content → List Content
 writes cs = filter is_write cs

@@ -86,9 +86,9 @@ pub(crate) fn apply_ranges<S: Store>(
     let mut left = stream;
     for (i, range) in ranges.iter().enumerate() {
         let (_, begun) = left.split_before(range.offset);
-        let (inside, behind) = begun.split_before(range.end());
+        let (inside, rest) = begun.split_before(range.end());
         apply_range(inside, *range, i as u64 + 1, store)?;
-        left = behind;
+        left = rest;
     }
     Ok(())
 }

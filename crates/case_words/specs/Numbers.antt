@@ -2,7 +2,7 @@
 -- spaces between. Rests on the numbers of causes and layers.
 use Rattle.std.specs.Prelude.{ℕ, List, ◌++◌, Option, Some, Ok, Err, Result, codes, decimal}
 use Rattle.fault.specs.Fault.{cause_number, layer_number}
-use Rattle.fault.specs.declared.kinds.Fault.{Fault}
+use Rattle.fault.specs.declared.fault.Fault.{Fault}
 
 abbrev pub numbers_of : Fault → List ℕ
 numbers_of f = decimal (cause_number f.cause) ++ (codes " " ++ (decimal (layer_number f.layer) ++ (codes " " ++ (decimal f.place ++ (codes " " ++ (decimal f.«record» ++ (codes " " ++ decimal f.entry)))))))

@@ -13,10 +13,14 @@ use std::alloc::Global;
 use std::fmt::Display;
 
 mod images;
+mod memory;
+mod pages;
 #[cfg(test)]
 mod tests;
 
-pub use images::{Memory, Pages, Room, contents};
+pub use images::{Room, contents};
+pub use memory::Memory;
+pub use pages::Pages;
 
 /// The first six words of a line. A word that is missing is empty, and those after the sixth are
 /// left out. A test says so and no clause, since nothing is known about the results of a closure
@@ -41,11 +45,13 @@ fn digit(b: u8) -> anyhow::Result<u8>
     }
 }
 
-// The bytes that the pairs of digits in a text spell.
-fn read_pairs(heap: Global, text: &[u8]) -> anyhow::Result<Vec<u8>>
-    ensures { IfOk result (λ bytes. digits_of bytes.items ≡ pairs_in text.now) }
+/// The bytes of a word. A last character without a second is left out, as the `-` that stands for
+/// no bytes.
+#[tactic(auto, using(crate::proofs::HexDigits::pairs))]
+pub fn decoded(heap: Global, word: &str) -> anyhow::Result<Vec<u8>>
+    ensures { IfOk result (λ bytes. digits_of bytes.items ≡ pairs_in word.now) }
 {
-    let (pairs, _) = text.as_chunks::<2>();
+    let (pairs, _) = word.as_bytes().as_chunks::<2>();
     let mut bytes = Vec::new(heap);
     for [high, low] in pairs {
         bytes.push(16 * digit(*high)? + digit(*low)?)?;
@@ -53,31 +59,15 @@ fn read_pairs(heap: Global, text: &[u8]) -> anyhow::Result<Vec<u8>>
     Ok(bytes)
 }
 
-/// The bytes of a word. A last character without a second is left out, as the `-` that stands for
-/// no bytes.
-pub fn decoded(heap: Global, word: &str) -> anyhow::Result<Vec<u8>>
-    ensures { IfOk result (λ bytes. digits_of bytes.items ≡ pairs_in word.now) }
-{
-    read_pairs(heap, word.as_bytes())
-}
-
-// The two digits of each byte.
-#[tactic(auto, using(crate::proofs::Spelled::spelled))]
-fn spell(heap: Global, bytes: &[u8]) -> anyhow::Result<String>
-    ensures { IfOk result (λ digits. string_bytes digits ≡ digits_of bytes.now) }
-{
-    Ok(hex::encode(heap, bytes)?)
-}
-
 /// Bytes as a word.
-#[tactic(auto, using(crate::proofs::Spelled::word_some))]
+#[tactic(auto, using(crate::proofs::HexDigits::spelled, crate::proofs::HexDigits::word_some))]
 pub fn encoded(heap: Global, bytes: &[u8]) -> anyhow::Result<String>
     ensures { IfOk result (λ word. string_bytes word ≡ word_of bytes.now) }
 {
     if bytes.is_empty() {
         return Ok(String::from_str(heap, "-")?);
     }
-    spell(heap, bytes)
+    Ok(hex::encode(heap, bytes)?)
 }
 
 /// The five numbers of a fault, in decimal, single spaces between. The `Display` of a fault prints

@@ -1,10 +1,10 @@
 -- The numbers of a refusal: its cause, the layer that gives it, and its place. Rests on nothing.
 use Rattle.std.specs.Prelude.{ℕ, Ok, Err, Result}
-use Rattle.fault.specs.declared.kinds.Cause.{Cause}
-use Rattle.fault.specs.declared.kinds.Cause.TheVariants.{Header, Cut, UnknownTag, Misplaced, Incomplete, BadName, TooLarge, BadRange, Overlap, TooManyRecords, Trailing, NamesDiffer, TooManyRanges, ShortBuffer, Outside, NoRoom, ShelfFull, NoEntry, NameTaken, Damaged}
-use Rattle.fault.specs.declared.kinds.Layer.{Layer}
-use Rattle.fault.specs.declared.kinds.Layer.TheVariants.{Stream, Join, Store, Shelf}
-use Rattle.fault.specs.declared.kinds.Fault.{Fault}
+use Rattle.fault.specs.declared.cause.Cause.{Cause}
+use Rattle.fault.specs.declared.cause.Cause.TheVariants.{Header, Cut, UnknownTag, Misplaced, Incomplete, BadName, TooLarge, BadRange, Overlap, TooManyRecords, Trailing, NamesDiffer, TooManyRanges, ShortBuffer, Outside, NoRoom, ShelfFull, NoEntry, NameTaken, Damaged}
+use Rattle.fault.specs.declared.layer.Layer.{Layer}
+use Rattle.fault.specs.declared.layer.Layer.TheVariants.{Stream, Join, Store, Shelf}
+use Rattle.fault.specs.declared.fault.Fault.{Fault}
 
 -- the number of each cause
 abbrev pub cause_number : Cause → ℕ

@@ -1,9 +1,9 @@
 -- A refusal in words: its cause, and its five numbers. Rests on the numbers of causes and layers.
 use Rattle.std.specs.Prelude.{ℕ, List, ◌++◌, codes, decimal}
 use Rattle.fault.specs.Fault.{cause_number, layer_number}
-use Rattle.fault.specs.declared.kinds.Cause.{Cause}
-use Rattle.fault.specs.declared.kinds.Cause.TheVariants.{Header, Cut, UnknownTag, Misplaced, Incomplete, BadName, TooLarge, BadRange, Overlap, TooManyRecords, Trailing, NamesDiffer, TooManyRanges, ShortBuffer, Outside, NoRoom, ShelfFull, NoEntry, NameTaken, Damaged}
-use Rattle.fault.specs.declared.kinds.Fault.{Fault}
+use Rattle.fault.specs.declared.cause.Cause.{Cause}
+use Rattle.fault.specs.declared.cause.Cause.TheVariants.{Header, Cut, UnknownTag, Misplaced, Incomplete, BadName, TooLarge, BadRange, Overlap, TooManyRecords, Trailing, NamesDiffer, TooManyRanges, ShortBuffer, Outside, NoRoom, ShelfFull, NoEntry, NameTaken, Damaged}
+use Rattle.fault.specs.declared.fault.Fault.{Fault}
 
 -- the words of each cause
 abbrev pub cause_words : Cause → List ℕ

@@ -11,9 +11,8 @@ use Rattle.overlay.specs.declared.payloads.PayloadMark.{PayloadMark}
 use Rattle.overlay.specs.declared.payloads.PayloadMark.TheVariants.{Zeroed, Written}
 use Rattle.overlay.specs.declared.payloads.Side.TheVariants.{Later}
 use Rattle.overlay.specs.Marks.{payload_moves, range_of}
-use Rattle.overlay.specs.States.{over}
-use Rattle.overlay.specs.Runs.{run_end, at, Rising, with_mark}
-use Rattle.overlay.proofs.Painted.{run_inside, run_after, rising_le}
+use Rattle.overlay.specs.Runs.{run_end, state_at, Rising, with_mark}
+use Rattle.overlay.proofs.RunPositions.{at_inside, at_past, rising_le}
 use Rattle.stream.specs.Bytes.{field}
 use Rattle.stream.specs.Records.{Content, data_at, header, record_bytes, records_bytes, stream_bytes, metas, data_of, size_in}
 use Rattle.stream.specs.Places.{run_record_by, run_record}
@@ -25,20 +24,20 @@ use Rattle.stream.specs.Parts.{parts_cells, PayloadIn, PayloadsIn}
 use Rattle.stream.specs.Difference.{Difference, difference, content_of, canonical_records, canonical_bytes}
 use Rattle.stream.specs.Streams.{stream_cells, stream_difference}
 use Rattle.stream.specs.declared.stream.Stream.{Stream}
-use Rattle.stream.proofs.Back.{same_back}
-use Rattle.stream.proofs.Meanings.{stands_for, encodings_append}
-use Rattle.stream.proofs.Sounds.{data_only, data_behind}
-use Rattle.stream.proofs.Told.{places_match, size_told}
-use Rattle.writer.proofs.Opening.{length_opening}
+use Rattle.stream.proofs.ReadRecords.{same_back}
+use Rattle.stream.proofs.StreamMeaning.{stands_for, encodings_append}
+use Rattle.stream.proofs.SoundLists.{data_only, data_behind}
+use Rattle.stream.proofs.PlacedRecords.{places_match, size_told}
+use Rattle.writer.proofs.StreamHead.{length_opening}
 use Rattle.join.specs.Lengths.{marked_length, records_length}
 use Rattle.join.specs.Orders.{in_order}
-use Rattle.stream.proofs.Refused.{same_refl}
-use Rattle.join.proofs.Accepted.{sound_short}
-use Rattle.stream.proofs.Fewest.{same_ranges}
-use Rattle.join.proofs.Ordered.{ordered, canonical_order}
-use Rattle.stream.proofs.Ranged.{length_cells}
+use Rattle.stream.proofs.StreamRefusals.{same_refl}
+use Rattle.join.proofs.Expressible.{sound_short}
+use Rattle.stream.proofs.RangeCounts.{same_ranges}
+use Rattle.join.proofs.TagOrder.{ordered, canonical_order}
+use Rattle.stream.proofs.FoundRanges.{length_cells}
 use Rattle.join.proofs.Payloads.{payload_held, moves_plain}
-use Rattle.stream.proofs.Sources.{stream_both, difference_same}
+use Rattle.stream.proofs.GatheredRecords.{stream_both, difference_same}
 use Rattle.join.proofs.Records.{length_marked, one_head, records_cost, length_canonical}
 
 bool_same : (a b : Bool) → (a ≡ true → b ≡ true) → (b ≡ true → a ≡ true) → a ≡ b
@@ -61,7 +60,7 @@ length-run_records xs (r ∷ rs) h =
 -- the record of a run's range has the payload that the run names
 module _ (xs : List ℕ) (parts : List (Run PayloadMark)) (size : ℕ) (short : length xs < 2 ^ 64) where
   content_held : (r : Run PayloadMark) (m : PayloadMark) → PayloadIn Later xs m r.length → run_end r ≤ size
-      → ((k : ℕ) → k < r.length → at payload_moves parts (r.offset + k) ≡ Some (payload_moves m k))
+      → ((k : ℕ) → k < r.length → state_at payload_moves parts (r.offset + k) ≡ Some (payload_moves m k))
       → content_of (parts_cells xs xs parts size) (record { offset = r.offset; length = r.length; mark = range_of m }) ≡ run_record_by xs r.offset r.length m
   content_held r Zeroed h l each = refl
   content_held r (Written s place) h l each =
@@ -71,7 +70,7 @@ module _ (xs : List ℕ) (parts : List (Run PayloadMark)) (size : ℕ) (short : 
       (λ k i. let u : place + k < 2 ^ 64 = omega (arith, h.1) in each k i ∙ ap (λ q. Some (Written s q)) (moves_plain place k u))
       ∙ ap (λ v. field v place r.length) b)
 
-  contents_held : (a b : ℕ) (rs : List (Run PayloadMark)) → Rising a rs b → b ≤ size → PayloadsIn Later xs rs → ((p : ℕ) → a ≤ p → at payload_moves parts p ≡ at payload_moves rs p)
+  contents_held : (a b : ℕ) (rs : List (Run PayloadMark)) → Rising a rs b → b ≤ size → PayloadsIn Later xs rs → ((p : ℕ) → a ≤ p → state_at payload_moves parts p ≡ state_at payload_moves rs p)
       → map (content_of (parts_cells xs xs parts size)) (map (with_mark range_of) rs) ≡ map (run_record xs) rs
   contents_held a b [] h l i e = refl
   contents_held a b (r ∷ rs) h l i e =
@@ -80,11 +79,11 @@ module _ (xs : List ℕ) (parts : List (Run PayloadMark)) (size : ℕ) (short : 
       (λ k lt.
       let w : a ≤ r.offset + k = omega (arith, h.0) in
       let d : r.offset + k - r.offset ≡ k = omega arith in
-      e (r.offset + k) w ∙ ap (λ s. over s (at payload_moves rs (r.offset + k))) (run_inside payload_moves r (r.offset + k) (omega arith) (omega arith)) ∙ ap (λ j. Some (payload_moves r.mark j)) d) in
+      e (r.offset + k) w ∙ (at_inside payload_moves r rs (r.offset + k) (omega arith) (omega arith)) ∙ ap (λ j. Some (payload_moves r.mark j)) d) in
       let more = contents_held (run_end r) b rs h.2 l i.1
       (λ p lt.
       let w : a ≤ p = omega (arith, h.0) in
-      e p w ∙ ap (λ s. over s (at payload_moves rs p)) (run_after payload_moves r p lt)) in
+      e p w ∙ (at_past payload_moves r rs p lt)) in
       ap (λ v. v ∷ map (content_of (parts_cells xs xs parts size)) (map (with_mark range_of) rs)) one ∙ ap (λ v. run_record xs r ∷ v) more
 
 module _ (cs : List Content) (xs : List ℕ) (s : Sound cs) (e : xs ≡ stream_bytes cs) where

@@ -11,15 +11,15 @@ use Rattle.overlay.specs.declared.payloads.Side.TheVariants.{Earlier, Later}
 use Rattle.overlay.specs.declared.ranges.RangeMark.{RangeMark}
 use Rattle.overlay.specs.declared.ranges.RangeMark.TheVariants as range
 use Rattle.overlay.specs.declared.payloads.PayloadMark.{PayloadMark}
-use Rattle.overlay.specs.declared.payloads.PayloadMark.TheVariants.{Zeroed, Written}
+use Rattle.overlay.specs.declared.payloads.PayloadMark.TheVariants.{Written}
 use Rattle.overlay.specs.Marks.{payload_moves, place_moves, range_of}
 use Rattle.overlay.specs.Payloads.{stream_of}
-use Rattle.overlay.specs.Runs.{run_end, at, run_states}
+use Rattle.overlay.specs.Runs.{run_end, state_at, run_states}
 use Rattle.overlay.specs.Walks.{moved_state, Left, Even}
 use Rattle.stream.specs.Meaning.{Cell}
 use Rattle.stream.specs.Parts.{cell_of, parts_cells}
 use Rattle.stream.specs.Difference.{byte_over, payload_at}
-use Rattle.stream.proofs.Ranged.{length_cells}
+use Rattle.stream.proofs.FoundRanges.{length_cells}
 use Rattle.join.specs.Lies.{ByteThere, AllPlaced}
 use Rattle.join.specs.Parts.{Ranged, PayloadThere, named_bytes}
 
@@ -39,15 +39,15 @@ pub length_payload : (ds : List (Option Cell)) (o n : ℕ) → o + n ≤ length 
 length_payload ds o n h = simp (length-map, length-take, length-drop) (omega arith)
 
 module _ (earlier later : List ℕ) (parts : List (Run PayloadMark)) (size : ℕ) where
-  pub cells_at : (p : ℕ) → p < size → get_or (parts_cells earlier later parts size) p None ≡ option_map (cell_of earlier later) (at payload_moves parts p)
+  pub cells_at : (p : ℕ) → p < size → get_or (parts_cells earlier later parts size) p None ≡ option_map (cell_of earlier later) (state_at payload_moves parts p)
   cells_at p h =
-      let l : p < length (run_states payload_moves parts size) = omega (arith, length-map-range_with_len (at payload_moves parts) 0 size) in
+      let l : p < length (run_states payload_moves parts size) = omega (arith, length-map-range_with_len (state_at payload_moves parts) 0 size) in
       get_or-map (option_map (cell_of earlier later)) (run_states payload_moves parts size) p None None l
-      ∙ ap (option_map (cell_of earlier later)) (get_or-map-range_with_len (at payload_moves parts) 0 size p p None h (omega arith))
+      ∙ ap (option_map (cell_of earlier later)) (get_or-map-range_with_len (state_at payload_moves parts) 0 size p p None h (omega arith))
 
   -- positions that name the bytes of a stream one after another have these as payload
   pub payload_held : (side : Side) (place pos n : ℕ) → pos + n ≤ size → place + n ≤ length (stream_of earlier later side)
-      → ((k : ℕ) → k < n → at payload_moves parts (pos + k) ≡ Some (Written side (place + k)))
+      → ((k : ℕ) → k < n → state_at payload_moves parts (pos + k) ≡ Some (Written side (place + k)))
       → payload_at (parts_cells earlier later parts size) pos n ≡ take n (drop place (stream_of earlier later side))
   payload_held side place pos n under within each =
       let cells = parts_cells earlier later parts size in
@@ -96,17 +96,11 @@ module _ (earlier later : List ℕ) (parts : List (Run PayloadMark)) (size : ℕ
   fits Earlier = short
   fits Later = brief
 
-  found : (s : Option PayloadMark) (pos n : ℕ) → 0 < n → pos + n ≤ size → ((p : ℕ) → pos ≤ p → p < pos + n → at payload_moves parts p ≡ moved_state payload_moves s (p - pos))
-      → option_map range_of (at payload_moves parts pos) ≡ Some range.Written → Found s pos n
-  found None pos n some under same w =
-      let e : ◌≡◌ {A = Option RangeMark} None (Some range.Written) = ap (option_map range_of) (sym (same pos (omega arith) (omega arith))) ∙ w in
-      let z : ◌≡◌ {A = ℕ} 0 1 = cc in absurd (omega arith)
-  found (Some Zeroed) pos n some under same w =
-      let e : Some range.Zeroed ≡ Some range.Written = ap (option_map range_of) (sym (same pos (omega arith) (omega arith))) ∙ w in
-      let z : ◌≡◌ {A = ℕ} 0 1 = cc in absurd (omega arith)
+  found : (s : Option PayloadMark) (pos n : ℕ) → 0 < n → pos + n ≤ size → ((p : ℕ) → pos ≤ p → p < pos + n → state_at payload_moves parts p ≡ moved_state payload_moves s (p - pos))
+      → option_map range_of (state_at payload_moves parts pos) ≡ Some range.Written → Found s pos n
   found (Some (Written side place)) pos n some under same w =
       let s = stream_of earlier later side in
-      let on : (k : ℕ) → k < n → at payload_moves parts (pos + k) ≡ Some (Written side (place_moves place k)) = λ k h.
+      let on : (k : ℕ) → k < n → state_at payload_moves parts (pos + k) ≡ Some (Written side (place_moves place k)) = λ k h.
       let a : pos ≤ pos + k = omega arith in
       let b : pos + k < pos + n = omega arith in
       let d : pos + k - pos ≡ k = omega arith in
@@ -121,9 +115,10 @@ module _ (earlier later : List ℕ) (parts : List (Run PayloadMark)) (size : ℕ
         is = payload_held earlier later parts size side place pos n under l
             (λ k h. let u : place + k < 2 ^ 64 = omega arith in on k h ∙ ap (λ q. Some (Written side q)) (moves_plain place k u));
       }
+  found s pos n some under same w = let e = sym (ap (option_map range_of) (same pos (omega arith) (omega arith))) ∙ w in cc
 
   -- what the parts say from a position of a written range on
-  pub piece_found : (r : Run RangeMark) (pos stop : ℕ) (piece : Piece PayloadMark) → Even payload_moves (at payload_moves parts) pos size piece → Ranged parts size r → r.mark ≡ range.Written
+  pub piece_found : (r : Run RangeMark) (pos stop : ℕ) (piece : Piece PayloadMark) → Even payload_moves (state_at payload_moves parts) pos size piece → Ranged parts size r → r.mark ≡ range.Written
       → r.offset ≤ pos → pos < stop → stop ≤ piece.stop → stop ≤ run_end r → Found piece.state pos (stop - pos)
   piece_found r pos stop piece even alike kind a b d e =
       let some : 0 < stop - pos = omega arith in
@@ -135,5 +130,5 @@ module _ (earlier later : List ℕ) (parts : List (Run PayloadMark)) (size : ℕ
 
 -- what the parts that are left say from a position on, all parts say
 pub even_left : (parts left : List (Run PayloadMark)) (size n pos : ℕ) (piece : Piece PayloadMark) → Left payload_moves parts pos left → n ≡ size
-    → Even payload_moves (at payload_moves left) pos n piece → Even payload_moves (at payload_moves parts) pos size piece
+    → Even payload_moves (state_at payload_moves left) pos n piece → Even payload_moves (state_at payload_moves parts) pos size piece
 even_left parts left size n pos piece h e even = record { more = even.more; under = omega (arith, even.under); same = λ p l m. sym (h.same p l) ∙ even.same p l m }

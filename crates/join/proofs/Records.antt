@@ -7,21 +7,20 @@ use Rattle.overlay.specs.declared.ranges.RangeMark.{RangeMark}
 use Rattle.overlay.specs.declared.ranges.RangeMark.TheVariants as range
 use Rattle.overlay.specs.declared.payloads.PayloadMark.{PayloadMark}
 use Rattle.overlay.specs.Marks.{payload_moves, range_moves, range_of}
-use Rattle.overlay.specs.States.{over}
-use Rattle.overlay.specs.Runs.{run_end, at, Rising}
-use Rattle.overlay.proofs.Painted.{run_inside, run_after, rising_le}
-use Rattle.overlay.proofs.Bridge.{runs_states}
+use Rattle.overlay.specs.Runs.{run_end, state_at, Rising}
+use Rattle.overlay.proofs.RunPositions.{at_inside, at_past, rising_le}
+use Rattle.overlay.proofs.StateLists.{runs_states}
 use Rattle.stream.specs.Records.{Content, header, record_bytes, records_bytes, metas}
 use Rattle.stream.specs.Meaning.{Cell, mark_of, ranges}
 use Rattle.stream.specs.Parts.{parts_cells}
 use Rattle.stream.specs.Difference.{Difference, payload_at, range_content, content_of, canonical_bytes}
-use Rattle.stream.proofs.Ranged.{kinds_agree, length_cells, ranges_runs}
-use Rattle.stream.proofs.Fewest.{total_cost}
+use Rattle.stream.proofs.FoundRanges.{kinds_agree, length_cells, ranges_runs}
+use Rattle.stream.proofs.RangeCounts.{total_cost}
 use Rattle.writer.specs.Fields.{opening}
-use Rattle.writer.proofs.Opening.{length_opening}
+use Rattle.writer.proofs.StreamHead.{length_opening}
 use Rattle.join.specs.Lengths.{marked_length, record_length, records_length, stream_length}
 use Rattle.join.specs.Parts.{AllRanged}
-use Rattle.stream.proofs.Meanings.{encodings_append}
+use Rattle.stream.proofs.StreamMeaning.{encodings_append}
 use Rattle.join.proofs.Payloads.{length_payload, cells_at}
 
 pub length_marked : (m : RangeMark) (o n : ℕ) (bs : List ℕ) → length bs ≡ n → length (record_bytes (range_content m o n bs)) ≡ marked_length m n
@@ -60,7 +59,7 @@ length_records ds a b (r ∷ rs) h l =
 
 module _ (parts : List (Run PayloadMark)) (size : ℕ) where
   -- runs that rise and say of each position what the parts say are ranges of these
-  ranged_from : (a b : ℕ) (rs : List (Run RangeMark)) → Rising a rs b → b ≤ size → ((p : ℕ) → a ≤ p → p < size → at range_moves rs p ≡ option_map range_of (at payload_moves parts p)) → AllRanged parts size rs
+  ranged_from : (a b : ℕ) (rs : List (Run RangeMark)) → Rising a rs b → b ≤ size → ((p : ℕ) → a ≤ p → p < size → state_at range_moves rs p ≡ option_map range_of (state_at payload_moves parts p)) → AllRanged parts size rs
   ranged_from a b [] h l same = tt
   ranged_from a b (r ∷ rs) h l same =
       let u = rising_le (run_end r) b rs h.2 in (
@@ -69,12 +68,12 @@ module _ (parts : List (Run PayloadMark)) (size : ℕ) where
           alike = λ p x y.
               let i : a ≤ p = omega arith in
               let k : p < size = omega arith in
-              sym (same p i k) ∙ ap (λ s. over s (at range_moves rs p)) (run_inside range_moves r p x y);
+              sym (same p i k) ∙ (at_inside range_moves r rs p x y);
         },
         ranged_from (run_end r) b rs h.2 l
             (λ p x y.
             let i : a ≤ p = omega arith in
-            sym (ap (λ s. over s (at range_moves rs p)) (run_after range_moves r p x)) ∙ same p i y),
+            sym ((at_past range_moves r rs p x)) ∙ same p i y),
       )
 
 pub ranges_rise : (ds : List (Option Cell)) → length ds < 2 ^ 64 → Rising 0 (ranges ds) (length ds)
@@ -117,7 +116,7 @@ module _ (earlier later : List ℕ) (parts : List (Run PayloadMark)) (size : ℕ
       (λ p x y.
       let u : p < length (map (option_map mark_of) (parts_cells earlier later parts size)) = omega arith in
       let v : p < length (parts_cells earlier later parts size) = omega arith in
-      of.paints p u ∙ get_or-map (option_map mark_of) cells p None None v ∙ ap (option_map mark_of) (cells_at earlier later parts size p y) ∙ kinds_agree earlier later (at payload_moves parts p))
+      of.paints p u ∙ get_or-map (option_map mark_of) cells p None None v ∙ ap (option_map mark_of) (cells_at earlier later parts size p y) ∙ kinds_agree earlier later (state_at payload_moves parts p))
 
 -- the run at an index, as the code reads it
 abbrev pub run_of : List (Run RangeMark) → ℕ → Run RangeMark

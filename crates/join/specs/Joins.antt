@@ -3,8 +3,8 @@
 -- and on faults.
 use Rattle.std.specs.Prelude.{ℕ, if◌then◌else◌, List, Ok, Err, Result}
 use Rattle.fault.specs.Fault.{fault, fault_by, in_entry, and_then}
-use Rattle.fault.specs.declared.kinds.Fault.{Fault}
-use Rattle.fault.specs.declared.kinds.Cause.TheVariants.{NamesDiffer}
+use Rattle.fault.specs.declared.fault.Fault.{Fault}
+use Rattle.fault.specs.declared.cause.Cause.TheVariants.{NamesDiffer}
 use Rattle.stream.specs.Verdict.{same}
 use Rattle.stream.specs.Difference.{Difference, meaning, join_difference, canonical_bytes}
 use Rattle.stream.specs.Streams.{stream_difference}

@@ -5,7 +5,7 @@ use Rattle.overlay.specs.declared.runs.Run.{Run}
 use Rattle.overlay.specs.declared.ranges.RangeMark.{RangeMark}
 use Rattle.overlay.specs.declared.ranges.RangeMark.TheVariants as range
 use Rattle.stream.specs.Records.{header, records_bytes, from_records}
-use Rattle.stream.specs.declared.kinds.TheConstants.{NAME_HEAD, RANGE_HEAD, SIZE_HEAD}
+use Rattle.stream.specs.declared.limits.TheConstants.{NAME_HEAD, RANGE_HEAD, SIZE_HEAD}
 
 -- a data record takes its head, and a w its payload
 abbrev pub marked_length : RangeMark → ℕ → ℕ
@@ -19,9 +19,6 @@ abbrev pub records_length : List (Run RangeMark) → ℕ
 records_length [] = 0
 records_length (r ∷ rs) = record_length r + records_length rs
 
--- what each stream has beside its names and data records: the header, the head of t, s and e
-abbrev pub fixed_length : ℕ
-fixed_length = length header + NAME_HEAD + SIZE_HEAD + 1
-
+-- the header, the head of t, s and e, and then what the names and the data records take
 abbrev pub stream_length : List ℕ → List ℕ → List (Run RangeMark) → ℕ
-stream_length from to rs = fixed_length + length (records_bytes (from_records from)) + length to + records_length rs
+stream_length from to rs = length header + NAME_HEAD + SIZE_HEAD + 1 + length (records_bytes (from_records from)) + length to + records_length rs

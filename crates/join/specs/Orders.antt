@@ -2,7 +2,7 @@
 -- format.
 use Rattle.std.specs.Prelude.{ℕ, ◌+◌, Bool, ◌&&◌, List, [], ◌∷◌, length, ◌==◌, slice_index}
 use Rattle.stream.specs.Records.{header}
-use Rattle.stream.specs.declared.kinds.TheConstants.{NAME_HEAD}
+use Rattle.stream.specs.declared.limits.TheConstants.{NAME_HEAD}
 
 -- whether the record at a place has the tag
 abbrev pub has_tag : List ℕ → ℕ → ℕ → Bool

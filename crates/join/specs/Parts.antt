@@ -1,15 +1,15 @@
 -- The parts of which a joined payload is made: what they say of a range, and the bytes that they
 -- name. Rests on the stream's parts, on differences, and on overlay's marks, payloads, runs and
 -- walks.
-use Rattle.std.specs.Prelude.{◌≡◌, ℕ, ◌+◌, ◌<◌, ◌≤◌, List, [], ◌∷◌, length, take, drop, Some, None, Option}
+use Rattle.std.specs.Prelude.{◌≡◌, ℕ, ◌+◌, ◌<◌, ◌≤◌, List, [], ◌∷◌, length, take, drop, Some, Option}
 use Rattle.std.specs.Option.{option_map}
 use Rattle.overlay.specs.declared.runs.Run.{Run}
 use Rattle.overlay.specs.declared.ranges.RangeMark.{RangeMark}
 use Rattle.overlay.specs.declared.payloads.PayloadMark.{PayloadMark}
-use Rattle.overlay.specs.declared.payloads.PayloadMark.TheVariants.{Zeroed, Written}
+use Rattle.overlay.specs.declared.payloads.PayloadMark.TheVariants.{Written}
 use Rattle.overlay.specs.Marks.{payload_moves, range_of}
 use Rattle.overlay.specs.Payloads.{stream_of}
-use Rattle.overlay.specs.Runs.{run_end, at}
+use Rattle.overlay.specs.Runs.{run_end, state_at}
 use Rattle.overlay.specs.Walks.{Left}
 use Rattle.overlay.specs.declared.sheets.Sheet.{Sheet}
 use Rattle.stream.specs.Meaning.{Cell}
@@ -34,7 +34,7 @@ pub record LeftOf (sheet : Sheet PayloadMark) (pos : ℕ) (left : Sheet PayloadM
 -- a range below the size whose positions all have its mark by the parts
 pub record Ranged (parts : List (Run PayloadMark)) (size : ℕ) (r : Run RangeMark) : Type 0 where
   pub within : run_end r ≤ size
-  pub alike : (p : ℕ) → r.offset ≤ p → p < run_end r → option_map range_of (at payload_moves parts p) ≡ Some r.mark
+  pub alike : (p : ℕ) → r.offset ≤ p → p < run_end r → option_map range_of (state_at payload_moves parts p) ≡ Some r.mark
 
 abbrev pub AllRanged : List (Run PayloadMark) → ℕ → List (Run RangeMark) → Type 0
 AllRanged parts size [] = Unit {0}
@@ -42,12 +42,10 @@ AllRanged parts size (r ∷ rs) = Ranged parts size r × AllRanged parts size rs
 
 -- a written state whose n bytes lie in the stream that it names
 abbrev pub PayloadThere : List ℕ → List ℕ → Option PayloadMark → ℕ → Type 0
-PayloadThere earlier later None n = ⊥
-PayloadThere earlier later (Some Zeroed) n = ⊥
 PayloadThere earlier later (Some (Written side place)) n = place + n ≤ length (stream_of earlier later side)
+PayloadThere earlier later state n = ⊥
 
 -- these bytes
 abbrev pub named_bytes : List ℕ → List ℕ → Option PayloadMark → ℕ → List ℕ
-named_bytes earlier later None n = []
-named_bytes earlier later (Some Zeroed) n = []
 named_bytes earlier later (Some (Written side place)) n = take n (drop place (stream_of earlier later side))
+named_bytes earlier later state n = []

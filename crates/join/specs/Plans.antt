@@ -2,12 +2,12 @@
 -- differences and their ranges, on overlay's buffers and on faults.
 use Rattle.std.specs.Prelude.{◌≡◌, ◌≤◌, if◌then◌else◌, List, length, take, IfOk, Ok, Err, Result, nat_lt}
 use Rattle.fault.specs.Fault.{fault}
-use Rattle.fault.specs.declared.kinds.Fault.{Fault}
-use Rattle.fault.specs.declared.kinds.Cause.TheVariants.{TooManyRanges}
+use Rattle.fault.specs.declared.fault.Fault.{Fault}
+use Rattle.fault.specs.declared.cause.Cause.TheVariants.{TooManyRanges}
 use Rattle.overlay.specs.declared.runs.Run.{Run}
 use Rattle.overlay.specs.declared.ranges.RangeMark.{RangeMark}
 use Rattle.overlay.specs.Buffers.{first_places}
-use Rattle.stream.specs.declared.kinds.TheConstants.{MOST_RECORDS}
+use Rattle.stream.specs.declared.limits.TheConstants.{MOST_RECORDS}
 use Rattle.stream.specs.Meaning.{ranges}
 use Rattle.stream.specs.Difference.{Difference, canonical_bytes}
 use Rattle.join.specs.declared.plans.Plan.{Plan}

@@ -9,7 +9,7 @@ ghost use Rattle.join.specs.Lengths.{stream_length};
 ghost use Rattle.join.specs.Orders.{in_order};
 ghost use Rattle.join.specs.Parts.{joined_difference};
 ghost use Rattle.join.specs.Plans.{plan_of};
-ghost use Rattle.fault.specs.declared.kinds.Layer.TheVariants as layers;
+ghost use Rattle.fault.specs.declared.layer.Layer.TheVariants as layers;
 
 use crate::parts::JoinedParts;
 use crate::plans::{Plan, plan_stream};

@@ -5,7 +5,7 @@ ghost use Rattle.join.specs.Laws.{ExpressibleReadBack, SoundExpressible, Canonic
 /// The laws of joins. Joins are associative, as differences and as bytes of streams; applying a
 /// join is applying its parts in turn; the ranges of a join are the overlay of the ranges; a joined
 /// stream means the join of what the two streams mean.
-#[tactic(auto, using(crate::proofs::Applying::applied_in_turn, crate::proofs::InTurn::joined_bracketing, crate::proofs::InTurn::streams_bracketing, crate::proofs::InTurn::ranges_overlaid, crate::proofs::InTurn::join_means))]
+#[tactic(auto, using(crate::proofs::JoinedImages::applied_in_turn, crate::proofs::Associativity::joined_bracketing, crate::proofs::Associativity::streams_bracketing, crate::proofs::Associativity::ranges_overlaid, crate::proofs::Associativity::join_means))]
 pub fn laws_of_joins()
     ensures bracketing { JoinsAssociative }
     ensures streams { JoinedStreamsAssociative }

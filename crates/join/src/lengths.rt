@@ -1,5 +1,5 @@
 ghost use Rattle.std.specs.Prelude.{◌≡◌, ◌≤◌};
-ghost use Rattle.stream.specs.declared.kinds.TheConstants.{LARGEST_SIZE};
+ghost use Rattle.stream.specs.declared.limits.TheConstants.{LARGEST_SIZE};
 ghost use Rattle.overlay.specs.Runs.{Rising};
 ghost use Rattle.join.specs.Lengths.{record_length, stream_length};
 

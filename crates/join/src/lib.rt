@@ -3,7 +3,7 @@
 
 ghost use Rattle.std.specs.Prelude.{◌≡◌};
 ghost use Rattle.fault.specs.Fault.{and_then};
-ghost use Rattle.fault.specs.declared.kinds.Layer.TheVariants as layers;
+ghost use Rattle.fault.specs.declared.layer.Layer.TheVariants as layers;
 ghost use Rattle.stream.specs.Buffers.{written_answer, written_buffer_by};
 ghost use Rattle.join.specs.Joins.{joined_stream, canonical_stream};
 
@@ -13,13 +13,11 @@ use overlay::Side;
 use stream::{RunBuffer, Stream};
 
 mod canonical;
-mod joining;
 mod laws;
 mod lengths;
 mod pairs;
 mod parts;
 mod plans;
-mod reading;
 mod writing;
 
 pub use canonical::{is_canonical, write_planned};

@@ -1,5 +1,5 @@
 ghost use Rattle.std.specs.Prelude.{◌≤◌, length};
-ghost use Rattle.stream.specs.declared.kinds.TheConstants.{LARGEST_SIZE, LONGEST_NAME};
+ghost use Rattle.stream.specs.declared.limits.TheConstants.{LARGEST_SIZE, LONGEST_NAME};
 ghost use Rattle.join.specs.Lies.{AllPlaced, all_placed_prop};
 
 use overlay::{PayloadMark, Sheet};

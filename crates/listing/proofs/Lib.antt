@@ -1,4 +1,4 @@
+pub mod Digits
 mod Lines
-mod Rooms
-mod Longest
-mod Blind
+mod LongestRuns
+mod PayloadBlindness

@@ -2,8 +2,8 @@
 -- of a stream, on Text, on buffers and on faults.
 use Rattle.std.specs.Prelude.{ℕ, List, Ok, Result}
 use Rattle.fault.specs.Fault.{and_then}
-use Rattle.fault.specs.declared.kinds.Fault.{Fault}
-use Rattle.fault.specs.declared.kinds.Layer.TheVariants.{Stream}
+use Rattle.fault.specs.declared.fault.Fault.{Fault}
+use Rattle.fault.specs.declared.layer.Layer.TheVariants.{Stream}
 use Rattle.stream.specs.Buffers.{written_answer}
 use Rattle.stream.specs.Parts.{stream_ranges}
 use Rattle.listing.specs.Text.{listing}

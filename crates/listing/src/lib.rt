@@ -2,7 +2,7 @@
 #![tactic(auto)]
 
 ghost use Rattle.std.specs.Prelude.{◌≡◌};
-ghost use Rattle.fault.specs.declared.kinds.Layer.TheVariants as layers;
+ghost use Rattle.fault.specs.declared.layer.Layer.TheVariants as layers;
 ghost use Rattle.stream.specs.Buffers.{written_answer, written_buffer, written_buffer_by};
 ghost use Rattle.stream.specs.Meaning.{ranges};
 ghost use Rattle.stream.specs.Streams.{stream_cells};
@@ -16,10 +16,10 @@ use stream::{MOST_RECORDS, RunBuffer, Stream, find_ranges};
 
 mod text;
 
-pub use text::write_text;
+pub use text::{text_length, write_text};
 
 // Writes the ranges of a stream that was read.
-#[tactic(auto, using(stream::proofs::Kept::few_runs, stream::proofs::Kept::cells_ranges))]
+#[tactic(auto, using(stream::proofs::StreamFacts::few_runs, stream::proofs::StreamFacts::cells_ranges))]
 fn write_ranges(stream: Stream, text: &mut [u8]) -> Result<usize, Fault>
     ensures result { result ≡
         written_answer layers.Stream text.old (listing (ranges (stream_cells stream.entry))) }
@@ -34,7 +34,7 @@ fn write_ranges(stream: Stream, text: &mut [u8]) -> Result<usize, Fault>
 /// Writes the list of a stream's ranges into the first bytes of `text`, and returns how many bytes
 /// that took. Refused for what is wrong with the stream, and then for a buffer that is too short.
 /// The bytes after the text stay, and all of the buffer after a refusal.
-#[tactic(auto, using(stream::proofs::Kept::ranges_meant))]
+#[tactic(auto, using(stream::proofs::StreamFacts::ranges_meant))]
 pub fn list(stream: &[u8], text: &mut [u8]) -> Result<usize, Fault>
     ensures result { result ≡ stream_list_answer stream.now text.old }
     ensures buffer { text.new ≡ written_buffer_by (stream_text stream.now) text.old }

@@ -1,12 +1,12 @@
 ghost use Rattle.std.specs.Prelude.{◌≡◌, ◌+◌, ◌≤◌, length, decimal};
-ghost use Rattle.fault.specs.declared.kinds.Layer.TheVariants.{Stream};
+ghost use Rattle.fault.specs.declared.layer.Layer.TheVariants.{Stream};
 ghost use Rattle.stream.specs.Buffers.{written_answer, written_buffer};
-ghost use Rattle.stream.specs.declared.kinds.TheConstants.{MOST_RECORDS};
+ghost use Rattle.stream.specs.declared.limits.TheConstants.{MOST_RECORDS};
 ghost use Rattle.stream.specs.Bytes.{buffer_with};
 ghost use Rattle.listing.specs.Text.{line_end, line, listing};
 
 use fault::{Cause, Fault};
-use itoa::Buffer;
+use itoa::write_digits;
 use overlay::{RangeMark, Run};
 use writer::{put_bytes, put_u8};
 
@@ -17,11 +17,15 @@ const HEADING: &[u8] = b"offset length kind\n";
 const LINE_END: usize = 6;
 
 // The number of digits of a number in decimal.
+#[tactic(auto, using(crate::proofs::Digits::length_decimal, itoa::proofs::Decimal::length_one))]
 fn digits(n: u64) -> usize
     ensures exact { result ≡ length (decimal n) }
     ensures few { result ≤ 20 }
 {
-    Buffer::new().format(n).len()
+    match n.checked_ilog10() {
+        None => 1,
+        Some(log) => log as usize + 1,
+    }
 }
 
 // Writes a number into the first bytes, and returns how many it took.
@@ -30,10 +34,9 @@ fn put_number(tail: &mut [u8], n: u64) -> usize
     ensures taken { result ≡ length (decimal n) }
     ensures buffer { tail.new ≡ buffer_with tail.old 0 (decimal n) }
 {
-    let mut buffer = Buffer::new();
-    let text = buffer.format(n).as_bytes();
-    put_bytes(tail, text);
-    text.len()
+    let count = digits(n);
+    write_digits(n, tail, count);
+    count
 }
 
 // Writes the rest of a line after its numbers: a space, the kind, and the line's end.
@@ -69,8 +72,8 @@ fn put_line(tail: &mut [u8], run: Run<RangeMark>) -> usize
     kind + LINE_END
 }
 
-// The length of the whole text.
-fn text_length(ranges: &[Run<RangeMark>]) -> usize
+/// The length of the text of ranges.
+pub fn text_length(ranges: &[Run<RangeMark>]) -> usize
     requires { length ranges.now ≤ MOST_RECORDS }
     ensures { result ≡ length (listing ranges.now) }
 {

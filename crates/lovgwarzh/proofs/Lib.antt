@@ -1,3 +1,2 @@
-mod Faults
 mod Printable
 mod Readings

@@ -6,16 +6,16 @@ use Rattle.std.proofs.Props.{props}
 use Rattle.std.proofs.Math.Logic.{∥∥₁_elim}
 use mathlib.Core.Sum.{⊎_set}
 use Rattle.fault.specs.Fault.{and_then}
-use Rattle.fault.specs.declared.kinds.Fault.{Fault}
+use Rattle.fault.specs.declared.fault.Fault.{Fault}
 use Rattle.stream.specs.Difference.{Difference, meaning}
 use Rattle.stream.specs.Records.{Content}
 use Rattle.stream.specs.Verdict.{verdict, same}
 use Rattle.stream.specs.declared.stream.Stream.{Stream}
 use Rattle.store.specs.Memory.{flat_set}
 use Rattle.store.specs.Stores.{Images}
-use Rattle.stream.proofs.Ranged.{length_cells}
-use Rattle.stream.proofs.Refused.{same_refl}
-use Rattle.stream.proofs.Sources.{read_meaning}
+use Rattle.stream.proofs.FoundRanges.{length_cells}
+use Rattle.stream.proofs.StreamRefusals.{same_refl}
+use Rattle.stream.proofs.GatheredRecords.{read_meaning}
 use Rattle.apply.specs.Applies.{led_from, apply_read, apply_answer}
 use Rattle.apply.proofs.Readings.{leads}
 use Rattle.lovgwarzh.specs.Calls.{size_after, to_name_of, image_memory, grown_outcome, file_outcome}

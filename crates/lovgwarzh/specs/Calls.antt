@@ -1,10 +1,8 @@
 -- What the commands make of the bytes of files, by the definitions of the calls that they use.
--- Rests on the definitions of list, join and apply, on what a stream means, on a flat image's
--- memory and on faults.
+-- Rests on the definition of apply, on what a stream means, on a flat image's memory and on faults.
 use Rattle.std.specs.Prelude.{◌≡◌, ℕ, ◌-◌, max, if◌then◌else◌, List, ◌++◌, length, take, drop, replicate, Ok, Err, Result, nat_lt}
 use Rattle.fault.specs.Fault.{and_then}
-use Rattle.fault.specs.declared.kinds.Fault.{Fault}
-use Rattle.listing.specs.Lists.{stream_text}
+use Rattle.fault.specs.declared.fault.Fault.{Fault}
 use Rattle.store.specs.Memory.{flat_set}
 use Rattle.store.specs.Stores.{Outcome, done}
 use Rattle.stream.specs.Difference.{Difference, meaning}
@@ -12,10 +10,6 @@ use Rattle.apply.specs.Applies.{apply_answer}
 use Rattle.lovgwarzh.specs.declared.files.TheConstants.{MOST_BYTES}
 use Rattle.lovgwarzh.specs.declared.failure.CallError.{CallError}
 use Rattle.lovgwarzh.specs.declared.failure.CallError.TheVariants.{Refused, Memory}
-
--- how long the list of a stream is, or the stream's fault
-abbrev pub text_length_of : List ℕ → Result ℕ Fault
-text_length_of stream = and_then (stream_text stream) (λ text. Ok (length text))
 
 -- a call that ended without its result: the definition has this fault, or memory ran out and
 -- nothing is said

@@ -4,45 +4,42 @@ ghost use Rattle.std.specs.Prelude.{◌≡◌, ◌^◌, ◌<◌, ◌≤◌, Ok, 
 ghost use Rattle.apply.specs.Applies.{StoreOutcome, apply_answer};
 ghost use Rattle.join.specs.Joins.{joined_stream};
 ghost use Rattle.listing.specs.Lists.{stream_text};
-ghost use Rattle.lovgwarzh.specs.Calls.{text_length_of, memory_room, memory_outcome, grown_outcome, file_outcome, to_name_of, RefusedAs, MemoryApplied, Applied};
+ghost use Rattle.listing.specs.Text.{listing};
+ghost use Rattle.lovgwarzh.specs.Calls.{memory_room, memory_outcome, grown_outcome, file_outcome, to_name_of, RefusedAs, MemoryApplied, Applied};
 
 use crate::failure::CallError;
 use crate::files::MOST_BYTES;
 use apply::{apply_stream, read_from};
-use fault::{Cause, Fault};
+use fault::Fault;
 use join::{join, joined_length};
-use listing::list;
+use listing::{text_length, write_text};
+use overlay::{RangeMark, Run, Side};
 use std::alloc::Global;
 use store::{FlatImage, LIMIT, Store};
-use stream::{RunBuffer, Stream};
+use stream::{MOST_RECORDS, RunBuffer, Stream, find_ranges};
 
-// How many bytes the list of a stream has: a list into no buffer has the length in its refusal.
-#[tactic(auto, using(crate::proofs::Faults::short_list))]
-fn list_length(stream: &[u8]) -> Result<u64, Fault>
-    ensures { result ≡ text_length_of stream.now }
+// The text of ranges.
+fn ranges_text(heap: Global, ranges: &[Run<RangeMark>]) -> Result<Vec<u8>, CallError>
+    requires { length ranges.now ≤ «MOST_RECORDS» }
+    ensures text { IfOk result (λ text. text.items ≡ listing ranges.now) }
+    ensures refused { IfErr result (λ error. RefusedAs error (Ok (listing ranges.now))) }
 {
-    match list(stream, &mut []) {
-        Ok(n) => Ok(n as u64),
-        Err(
-            Fault {
-                cause: Cause::ShortBuffer,
-                place,
-                ..
-            },
-        ) => Ok(place),
-        Err(fault) => Err(fault),
-    }
+    let mut text = vec![in heap; 0u8; text_length(ranges)]?;
+    write_text(ranges, &mut text)?;
+    Ok(text)
 }
 
 /// The list of a stream.
+#[tactic(auto, using(stream::proofs::StreamFacts::few_runs, stream::proofs::StreamFacts::cells_ranges, stream::proofs::StreamFacts::ranges_meant))]
 pub fn list_text(heap: Global, stream: &[u8]) -> Result<Vec<u8>, CallError>
     ensures text { IfOk result (λ text. stream_text stream.now ≡ Ok text.items) }
     ensures refused { IfErr result (λ error. RefusedAs error (stream_text stream.now)) }
 {
-    let length = list_length(stream)?;
-    let mut text = vec![in heap; 0u8; length as usize]?;
-    list(stream, &mut text)?;
-    Ok(text)
+    let mut buffer = RunBuffer::new();
+    let stream = Stream::read(stream, Side::Later, &mut buffer)?;
+    let mut ranges = [Run::<RangeMark>::NONE; MOST_RECORDS];
+    let count = find_ranges(stream.sheet, &mut ranges);
+    ranges_text(heap, &ranges[..count])
 }
 
 /// The bytes of two streams that are to be joined.

@@ -3,12 +3,8 @@ use crate::paths::{ApplyPaths, JoinPaths};
 /// What the words of the command line ask for.
 #[derive(Drop)]
 pub enum Command<'a> {
-    Check {
-        file: &'a str,
-    },
-    List {
-        file: &'a str,
-    },
+    Check(&'a str),
+    List(&'a str),
     Join {
         paths: JoinPaths<'a>,
         out: &'a str,
@@ -43,12 +39,8 @@ pub fn parse(words: &[String]) -> Option<Command<'_>> {
         return None;
     };
     match (name.as_str(), rest) {
-        ("check", [file]) => Some(Command::Check {
-            file: file.as_str(),
-        }),
-        ("list", [file]) => Some(Command::List {
-            file: file.as_str(),
-        }),
+        ("check", [file]) => Some(Command::Check(file.as_str())),
+        ("list", [file]) => Some(Command::List(file.as_str())),
         ("join", [earlier, later, out]) => Some(Command::Join {
             paths: JoinPaths {
                 earlier: earlier.as_str(),

@@ -23,8 +23,8 @@ mod tour;
 // Carries a command out.
 fn carry_out(rt: &HostRuntime, command: Command) -> Result<(), Failure> {
     match command {
-        Command::Check { file } => check_file(rt, file),
-        Command::List { file } => list_file(rt, file),
+        Command::Check(file) => check_file(rt, file),
+        Command::List(file) => list_file(rt, file),
         Command::Join { paths, out } => join_files(rt, paths, out),
         Command::Apply { paths, name } => apply_to_file(rt, paths, name),
         Command::Tour => Ok(show_tour(rt)?),

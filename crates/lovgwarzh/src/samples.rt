@@ -2,9 +2,9 @@ use anyhow::anyhow;
 use fault::Fault;
 use writer::Opened;
 
-/// A data record of a sample.
+/// A data record of a sample: bytes at an offset, or zeros from an offset on.
 pub enum Change {
-    Data { offset: u64, bytes: &'static [u8] },
+    Data(u64, &'static [u8]),
     Zero { offset: u64, length: u64 },
 }
 
@@ -23,14 +23,8 @@ pub const SAMPLE: Difference = Difference {
     to: b"b",
     size: 10,
     changes: &[
-        Change::Data {
-            offset: 2,
-            bytes: b"WXYZ",
-        },
-        Change::Data {
-            offset: 6,
-            bytes: b"12",
-        },
+        Change::Data(2, b"WXYZ"),
+        Change::Data(6, b"12"),
         Change::Zero {
             offset: 9,
             length: 1,
@@ -51,10 +45,7 @@ pub const GROWN: Difference = Difference {
     from: b"b",
     to: b"c",
     size: 10,
-    changes: &[Change::Data {
-        offset: 8,
-        bytes: b"k",
-    }],
+    changes: &[Change::Data(8, b"k")],
 };
 
 /// A chain of four streams over an image of 768 bytes, three pages of 256.
@@ -63,16 +54,7 @@ pub const CHAIN: [Difference; 4] = [
         from: b"a",
         to: b"b",
         size: 768,
-        changes: &[
-            Change::Data {
-                offset: 0,
-                bytes: b"N",
-            },
-            Change::Data {
-                offset: 512,
-                bytes: b"k",
-            },
-        ],
+        changes: &[Change::Data(0, b"N"), Change::Data(512, b"k")],
     },
     // the second page is blank
     Difference {
@@ -88,19 +70,13 @@ pub const CHAIN: [Difference; 4] = [
         from: b"c",
         to: b"d",
         size: 768,
-        changes: &[Change::Data {
-            offset: 1,
-            bytes: b"ew",
-        }],
+        changes: &[Change::Data(1, b"ew")],
     },
     Difference {
         from: b"d",
         to: b"e",
         size: 768,
-        changes: &[Change::Data {
-            offset: 513,
-            bytes: b"ey",
-        }],
+        changes: &[Change::Data(513, b"ey")],
     },
 ];
 
@@ -110,7 +86,7 @@ impl Difference {
         let mut recording = Opened::new().names(out, self.from, self.to, self.size)?;
         for change in self.changes {
             recording = match change {
-                Change::Data { offset, bytes } => recording.write(out, *offset, bytes)?,
+                Change::Data(offset, bytes) => recording.write(out, *offset, bytes)?,
                 Change::Zero { offset, length } => recording.zero(out, *offset, *length)?,
             };
         }

@@ -3,8 +3,8 @@
 -- layers.
 use Rattle.std.specs.Prelude.{ℕ, List, [], ◌∷◌, Ok, Err, Result}
 use Rattle.fault.specs.Fault.{and_then, cause_number, layer_number}
-use Rattle.fault.specs.declared.kinds.Fault.{Fault}
-use Rattle.fault.specs.declared.kinds.Layer.TheVariants.{Join}
+use Rattle.fault.specs.declared.fault.Fault.{Fault}
+use Rattle.fault.specs.declared.layer.Layer.TheVariants.{Join}
 use Rattle.join.specs.Joins.{joined_stream}
 use Rattle.listing.specs.Lists.{stream_list_answer}
 use Rattle.stream.specs.Buffers.{written_answer}

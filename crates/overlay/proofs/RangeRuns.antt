@@ -5,7 +5,7 @@ use Rattle.overlay.specs.declared.ranges.RangeMark.{RangeMark}
 use Rattle.overlay.specs.declared.ranges.RangeMark.TheVariants.{Zeroed, Written}
 use Rattle.overlay.specs.Laws.{RunsExist}
 use Rattle.overlay.specs.Marks.{range_moves, range_alike}
-use Rattle.overlay.proofs.Exists.{exists}
+use Rattle.overlay.proofs.CanonicalRuns.{exists}
 
 pub range_tells : (m n : RangeMark) → Decides (range_alike m n) (m ≡ n)
 range_tells Zeroed Zeroed = (λ e. refl, λ e. refl)

@@ -16,9 +16,8 @@ range_filler = range.Zeroed
 
 abbrev pub range_alike : RangeMark → RangeMark → Bool
 range_alike range.Zeroed range.Zeroed = true
-range_alike range.Zeroed range.Written = false
-range_alike range.Written range.Zeroed = false
 range_alike range.Written range.Written = true
+range_alike m n = false
 
 -- a place below 2^64, as each place of the code is, moves on modulo 2^64
 abbrev pub place_moves : ℕ → ℕ → ℕ
@@ -33,15 +32,13 @@ payload_filler = Zeroed
 
 abbrev pub side_alike : Side → Side → Bool
 side_alike Earlier Earlier = true
-side_alike Earlier Later = false
-side_alike Later Earlier = false
 side_alike Later Later = true
+side_alike s t = false
 
 abbrev pub payload_alike : PayloadMark → PayloadMark → Bool
 payload_alike Zeroed Zeroed = true
-payload_alike Zeroed (Written s p) = false
-payload_alike (Written s p) Zeroed = false
 payload_alike (Written s p) (Written t q) = side_alike s t && p == q
+payload_alike m n = false
 
 -- the kind of a payload mark
 abbrev pub range_of : PayloadMark → RangeMark

@@ -5,7 +5,7 @@ use Rattle.std.specs.Prelude.{◌≡◌, ℕ, ◌+◌, ◌-◌, ◌<◌, ◌≤�
 use Rattle.std.specs.List.{range_with_len}
 use Rattle.std.specs.Coded.{le_prop}
 use Rattle.overlay.specs.declared.runs.Run.{Run}
-use Rattle.overlay.specs.States.{over, overlay_states}
+use Rattle.overlay.specs.States.{state_over, overlay_states}
 
 -- the position after a run's last
 abbrev pub run_end : {M : Type 0} → Run M → ℕ
@@ -16,18 +16,18 @@ unfoldable pub run_at : {M : Type 0} → (M → ℕ → M) → Run M → ℕ →
 run_at moves r p = if nat_le r.offset p && nat_lt p (run_end r) then Some (moves r.mark (p - r.offset)) else None
 
 -- the state that runs give a position
-abbrev pub at : {M : Type 0} → (M → ℕ → M) → List (Run M) → ℕ → Option M
-at moves [] p = None
-at moves (r ∷ rs) p = over (run_at moves r p) (at moves rs p)
+abbrev pub state_at : {M : Type 0} → (M → ℕ → M) → List (Run M) → ℕ → Option M
+state_at moves [] p = None
+state_at moves (r ∷ rs) p = state_over (run_at moves r p) (state_at moves rs p)
 
 -- the difference of a size that runs mean
 abbrev pub run_states : {M : Type 0} → (M → ℕ → M) → List (Run M) → ℕ → List (Option M)
-run_states moves rs size = map (at moves rs) (range_with_len 0 size)
+run_states moves rs size = map (state_at moves rs) (range_with_len 0 size)
 
 -- the join by positions: what earlier runs of a size and later runs over them give a position below
 -- the later size
 abbrev pub overlay_state_at : {M : Type 0} → (M → ℕ → M) → M → List (Run M) → ℕ → List (Run M) → ℕ → Option M
-overlay_state_at moves filler earlier size later p = over (at moves later p) (if nat_lt p size then at moves earlier p else Some filler)
+overlay_state_at moves filler earlier size later p = state_over (state_at moves later p) (if nat_lt p size then state_at moves earlier p else Some filler)
 
 -- runs of at least one position, in rising order and not overlapping, from a up to b
 abbrev pub Rising : {M : Type 0} → ℕ → List (Run M) → ℕ → Type 0
@@ -56,7 +56,7 @@ pub record Canonical {M : Type 0} (moves : M → ℕ → M) (rs : List (Run M)) 
 -- canonical runs of the states below a size
 pub record RunsOf {M : Type 0} (moves : M → ℕ → M) (states : ℕ → Option M) (size : ℕ) (rs : List (Run M)) : Type 0 where
   pub canonical : Canonical moves rs size
-  pub paints : (p : ℕ) → p < size → at moves rs p ≡ states p
+  pub paints : (p : ℕ) → p < size → state_at moves rs p ≡ states p
 
 -- canonical runs of a difference
 pub record Runs {M : Type 0} (moves : M → ℕ → M) (ds : List (Option M)) (rs : List (Run M)) : Type 0 where

@@ -4,9 +4,9 @@
 use Rattle.std.specs.Prelude.{List, [], ◌∷◌, Some, None, Option}
 
 -- the later state, unless it keeps the position
-abbrev pub over : {M : Type 0} → Option M → Option M → Option M
-over None earlier = earlier
-over (Some m) earlier = Some m
+abbrev pub state_over : {M : Type 0} → Option M → Option M → Option M
+state_over None earlier = earlier
+state_over (Some m) earlier = Some m
 
 -- the first of a list, or another where there is none
 abbrev pub first_or : {X : Type 0} → X → List X → X
@@ -22,7 +22,7 @@ rest (x ∷ xs) = xs
 -- the earlier size is the filler, the mark of a byte that only regrowth made.
 unfoldable pub overlay_states : {M : Type 0} → M → List (Option M) → List (Option M) → List (Option M)
 overlay_states filler earlier [] = []
-overlay_states filler earlier (later ∷ ls) = over later (first_or (Some filler) earlier) ∷ overlay_states filler (rest earlier) ls
+overlay_states filler earlier (later ∷ ls) = state_over later (first_or (Some filler) earlier) ∷ overlay_states filler (rest earlier) ls
 
 -- the join of one difference and those that follow it, oldest first
 unfoldable pub overlay_states_all : {M : Type 0} → M → List (Option M) → List (List (Option M)) → List (Option M)

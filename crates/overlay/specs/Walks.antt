@@ -3,8 +3,8 @@
 use Rattle.std.specs.Prelude.{◌≡◌, ℕ, ◌+◌, ◌-◌, ◌<◌, ◌≤◌, if◌then◌else◌, List, [], ◌∷◌, length, Some, None, Option, nat_le, nat_lt}
 use Rattle.overlay.specs.declared.runs.Run.{Run}
 use Rattle.overlay.specs.declared.runs.Piece.{Piece}
-use Rattle.overlay.specs.States.{over}
-use Rattle.overlay.specs.Runs.{run_end, run_at, at, Rising, Apart, Canonical}
+use Rattle.overlay.specs.States.{state_over}
+use Rattle.overlay.specs.Runs.{run_end, run_at, state_at, Rising, Apart, Canonical}
 
 -- the state of the position k further, where the marks move on
 abbrev pub moved_state : {M : Type 0} → (M → ℕ → M) → Option M → ℕ → Option M
@@ -43,20 +43,20 @@ edges p rs size = edges_after p rs + tick p size
 -- The first piece of runs from a position on: its states are even, and it passes an edge, so that a
 -- walk ends.
 pub record FirstPiece {M : Type 0} (moves : M → ℕ → M) (runs : List (Run M)) (size pos : ℕ) (piece : Piece M) : Type 0 where
-  pub even : Even moves (at moves runs) pos size piece
+  pub even : Even moves (state_at moves runs) pos size piece
   pub nears : edges piece.stop runs size < edges pos runs size
 
 -- runs of which some are left: from pos on these give each position what all of them give it, and
 -- have the same edges
 pub record Left {M : Type 0} (moves : M → ℕ → M) (runs : List (Run M)) (pos : ℕ) (left : List (Run M)) : Type 0 where
-  pub same : (p : ℕ) → pos ≤ p → at moves left p ≡ at moves runs p
+  pub same : (p : ℕ) → pos ≤ p → state_at moves left p ≡ state_at moves runs p
   pub edges : (p : ℕ) → pos ≤ p → edges_after p left ≡ edges_after p runs
 
 -- a run is added to runs that end at or before its offset
 pub record Pushed {M : Type 0} (moves : M → ℕ → M) (before : List (Run M)) (r : Run M) (after : List (Run M)) : Type 0 where
   pub rising : Rising 0 after (run_end r)
   pub apart : Apart moves after
-  pub paints : (p : ℕ) → at moves after p ≡ over (at moves before p) (run_at moves r p)
+  pub paints : (p : ℕ) → state_at moves after p ≡ state_over (state_at moves before p) (run_at moves r p)
   pub keeps : length before ≤ length after
   pub grows : length after ≤ length before + 1
 
@@ -65,5 +65,5 @@ pub record Grown {M : Type 0} (moves : M → ℕ → M) (before : List (Run M)) 
   pub canonical : Canonical moves after piece.stop
   pub keeps : length before ≤ length after
   pub grows : length after ≤ length before + 1
-  pub old : (p : ℕ) → p < pos → at moves after p ≡ at moves before p
-  pub new : (p : ℕ) → pos ≤ p → p < piece.stop → at moves after p ≡ moved_state moves piece.state (p - pos)
+  pub old : (p : ℕ) → p < pos → state_at moves after p ≡ state_at moves before p
+  pub new : (p : ℕ) → pos ≤ p → p < piece.stop → state_at moves after p ≡ moved_state moves piece.state (p - pos)

@@ -59,14 +59,9 @@ fn add<M: Mark + Copy>(out: &mut [Run<M>], k: usize, pos: u64, piece: Piece<M>) 
 
 // The loop of `overlay`: piece by piece, from position 0 up to the later size. Each turn passes an
 // edge of a run or a size, and adds at most one run.
-#[tactic(auto, using(crate::proofs::Walking::edges_all, crate::proofs::Walking::runs_none, crate::proofs::Walking::left_all))]
-fn overlay_pieces<M: Mark + Copy>(
-    earlier: Sheet<M>,
-    later: Sheet<M>,
-    out: &mut [Run<M>],
-) -> Option<usize>
-    ensures { OverlayAnswer M.moves M.alike M.FILLER
-        earlier.entry.runs.now earlier.entry.size later.entry.runs.now later.entry.size
+#[tactic(auto, using(crate::proofs::WalkPieces::edges_all, crate::proofs::WalkPieces::runs_none, crate::proofs::WalkPieces::left_all))]
+fn walk<M: Mark + Copy>(earlier: Sheet<M>, later: Sheet<M>, out: &mut [Run<M>]) -> Option<usize>
+    ensures { OverlayAnswer M.moves M.alike M.FILLER earlier.entry later.entry
         result out.old out.new }
 {
     let mut under = earlier;
@@ -92,9 +87,8 @@ pub fn overlay<M: Mark + Copy>(
     later: Sheet<M>,
     out: &mut [Run<M>],
 ) -> Option<usize>
-    ensures { OverlayAnswer M.moves M.alike M.FILLER
-        earlier.entry.runs.now earlier.entry.size later.entry.runs.now later.entry.size
+    ensures { OverlayAnswer M.moves M.alike M.FILLER earlier.entry later.entry
         result out.old out.new }
 {
-    overlay_pieces(earlier, later, out)
+    walk(earlier, later, out)
 }

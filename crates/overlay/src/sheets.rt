@@ -52,7 +52,7 @@ fn first_piece<M: Mark + Copy>(runs: &[Run<M>], size: u64, pos: u64) -> Piece<M>
 
 impl<'a, M: Mark + Copy> Sheet<'a, M> {
     // The sheet without its first run, where that ends by `pos`.
-    #[tactic(auto, using(crate::proofs::Walking::first_ends, crate::proofs::Walking::rising_rest))]
+    #[tactic(auto, using(crate::proofs::WalkPieces::first_ends, crate::proofs::WalkPieces::rising_rest))]
     fn pass(self, pos: u64) -> Option<Sheet<'a, M>>
         ensures { MatchOption result
             (runs_left pos self.entry.runs.now ≡ self.entry.runs.now)
@@ -71,7 +71,7 @@ impl<'a, M: Mark + Copy> Sheet<'a, M> {
 
     /// The sheet from `pos` on: without the first of its runs, as long as these end at or before
     /// `pos`.
-    #[tactic(auto, using(crate::proofs::Walking::left_runs, crate::proofs::Walking::ahead_left))]
+    #[tactic(auto, using(crate::proofs::WalkPieces::left_runs, crate::proofs::WalkPieces::ahead_left))]
     pub fn skip(self, pos: u64) -> Sheet<'a, M>
         ensures size { result.size ≡ self.entry.size }
         ensures runs { result.runs.now ≡ runs_left pos self.entry.runs.now }
@@ -98,7 +98,7 @@ impl<'a, M: Mark + Copy> Sheet<'a, M> {
 
 // The piece of the overlay that begins at `pos`: the later piece, unless it keeps; past the earlier
 // size the filler, and else the earlier piece.
-#[tactic(auto, using(crate::proofs::Walking::edges_on))]
+#[tactic(auto, using(crate::proofs::WalkPieces::edges_on))]
 pub(crate) fn covered<M: Mark + Copy>(earlier: Sheet<M>, later: Sheet<M>, pos: u64) -> Piece<M>
     requires earlier_ahead { Ahead pos earlier.runs.now }
     requires later_ahead { Ahead pos later.runs.now }

@@ -1,9 +1,10 @@
 -- How the count of the pages with a non-zero byte changes. Rests on the definition of pages.
 use Rattle.std.specs.Prelude.{◌≡◌, ℕ, zero, suc, ◌+◌, ◌-◌, ◌*◌, ◌/◌, ◌<◌, ◌≤◌, ◌⊎◌, Bool, true, false, cond, ◌≢◌, List, [], ◌∷◌, length, take, drop, ◌==◌, slice_index, refl}
 use Rattle.std.proofs.Common.{inl, inr, sym, ap, ◌∙◌, ⊎_elim, arith, length-take, length-drop}
-use Rattle.std.proofs.lemmas.List.{get_or-take, get_or-drop, get_or_past, ext_get_or, drop-drop}
+use Rattle.std.proofs.lemmas.List.{get_or-take, get_or-drop, get_or_past, ext_get_or}
 use Rattle.std.proofs.lemmas.Bool.{cases_lt, eq-eqb, eqb-true, and_parts, both_ways}
 use Rattle.paged.specs.Pages.{page_of, blank, filled_from, filled_pages, Ready}
+use Rattle.paged.proofs.PageLaws.{getD_page, page_on}
 
 pub blank_all : (xs : List ℕ) → ((p : ℕ) → slice_index xs p ≡ 0) → blank xs ≡ true
 blank_all [] z = refl
@@ -13,9 +14,6 @@ pub blank_at : (xs : List ℕ) (p : ℕ) → blank xs ≡ true → slice_index x
 blank_at [] p h = refl
 blank_at (x ∷ xs) zero h = eqb-true x 0 (and_parts (x == 0) (blank xs) h).0
 blank_at (x ∷ xs) (suc p) h = blank_at xs p (and_parts (x == 0) (blank xs) h).1
-
-pub getD_page : (b : List ℕ) (i r : ℕ) → r < 256 → slice_index (page_of b i) r ≡ slice_index b (256 * i + r)
-getD_page b i r l = get_or-take 256 (drop (256 * i) b) r 0 l ∙ get_or-drop (256 * i) b r 0
 
 -- the first m bytes have zeros where all have
 take_mono : (m : ℕ) (a b : List ℕ) (p : ℕ) → (slice_index b p ≡ 0 → slice_index a p ≡ 0) → slice_index (take m b) p ≡ 0 → slice_index (take m a) p ≡ 0
@@ -34,11 +32,8 @@ pub weight_small : (t : Bool) → cond t 0 1 ≤ 1
 weight_small true = omega arith
 weight_small false = omega arith
 
-pub weight_one : (t : Bool) → t ≡ false → ◌≡◌ {A = ℕ} (cond t 0 1) 1
-weight_one t e = ap {B = ℕ} (λ t. cond t 0 1) e
-
-pub weight_none : (t : Bool) → t ≡ true → ◌≡◌ {A = ℕ} (cond t 0 1) 0
-weight_none t e = ap {B = ℕ} (λ t. cond t 0 1) e
+pub weight : {t u : Bool} → t ≡ u → ◌≡◌ {A = ℕ} (cond t 0 1) (cond u 0 1)
+weight e = ap {B = ℕ} (λ t. cond t 0 1) e
 
 pub filled_small : (n : ℕ) (a : List ℕ) → filled_from n a ≤ n
 filled_small zero a = omega arith
@@ -59,28 +54,23 @@ filled_mono (suc n) (suc m) a b h z =
     let more = filled_mono n m (drop 256 a) (drop 256 b) (λ p e. get_or-drop 256 a p 0 ∙ h (256 + p) (sym (get_or-drop 256 b p 0) ∙ e)) (λ p l. get_or-drop 256 a p 0 ∙ z (256 + p) (omega arith)) in
     omega arith
 
--- page i past the first one
-pub page_on : (c : List ℕ) (i : ℕ) → page_of (drop 256 c) i ≡ page_of c (suc i)
-page_on c i = ap (take 256) (drop-drop (256 * i) 256 c ∙ ap (λ m. drop m c) (omega arith))
-
--- where each page that is blank in b is blank in a, a has no more filled pages
-pub filled_ready : (n : ℕ) (a b : List ℕ) → Ready a b → filled_from n a ≤ filled_from n b
-filled_ready zero a b h = omega arith
-filled_ready (suc n) a b h =
-    let first = weight_le (blank (take 256 a)) (blank (take 256 b)) (h 0) in
-    let more = filled_ready n (drop 256 a) (drop 256 b) (λ j e. ap blank (page_on a j) ∙ h (suc j) (sym (ap blank (page_on b j)) ∙ e)) in
-    omega arith
+-- what holds of a page past the first one holds of the pages without the first
+later : {P : ℕ → Type 0} (a b : List ℕ) → ((j : ℕ) → P j → blank (page_of b (suc j)) ≡ true → blank (page_of a (suc j)) ≡ true) → (j : ℕ) → P j → blank (page_of (drop 256 b) j) ≡ true → blank (page_of (drop 256 a) j) ≡ true
+later a b h j out e = ap blank (page_on a j) ∙ h j out (sym (ap blank (page_on b j)) ∙ e)
 
 -- where pages from lo up to hi alone may be blank in b and not in a, a has at most hi - lo filled
 -- pages more
 pub filled_met : (n lo hi : ℕ) (a b : List ℕ) → ((j : ℕ) → (j < lo) ⊎ (hi ≤ j) → blank (page_of b j) ≡ true → blank (page_of a j) ≡ true) → filled_from n a ≤ filled_from n b + (hi - lo)
 filled_met zero lo hi a b h = omega arith
-filled_met (suc n) lo zero a b h = omega (arith, filled_ready (suc n) a b (λ j e. h j (inr (omega arith)) e))
+filled_met (suc n) lo zero a b h = omega (arith, weight_le (blank (take 256 a)) (blank (take 256 b)) (h 0 (inr (omega arith))), filled_met n 0 0 (drop 256 a) (drop 256 b) (later a b (λ j out. h (suc j) (inr (omega arith)))))
 filled_met (suc n) zero (suc hi) a b h =
-    omega (arith, weight_small (blank (take 256 a)), filled_met n zero hi (drop 256 a) (drop 256 b) (λ j out e. ap blank (page_on a j) ∙ h (suc j) (⊎_elim (λ l. absurd (omega arith)) (λ g. inr (omega arith)) out) (sym (ap blank (page_on b j)) ∙ e)))
+    omega (arith, weight_small (blank (take 256 a)), filled_met n zero hi (drop 256 a) (drop 256 b) (later a b (λ j out. h (suc j) (⊎_elim (λ l. absurd (omega arith)) (λ g. inr (omega arith)) out))))
 filled_met (suc n) (suc lo) (suc hi) a b h =
-    let first = weight_le (blank (take 256 a)) (blank (take 256 b)) (h 0 (inl (omega arith))) in
-    omega (arith, first, filled_met n lo hi (drop 256 a) (drop 256 b) (λ j out e. ap blank (page_on a j) ∙ h (suc j) (⊎_elim (λ l. inl (omega arith)) (λ g. inr (omega arith)) out) (sym (ap blank (page_on b j)) ∙ e)))
+    omega (arith, weight_le (blank (take 256 a)) (blank (take 256 b)) (h 0 (inl (omega arith))), filled_met n lo hi (drop 256 a) (drop 256 b) (later a b (λ j out. h (suc j) (⊎_elim (λ l. inl (omega arith)) (λ g. inr (omega arith)) out))))
+
+-- where each page that is blank in b is blank in a, a has no more filled pages
+pub filled_ready : (n : ℕ) (a b : List ℕ) → Ready a b → filled_from n a ≤ filled_from n b
+filled_ready n a b h = omega (arith, filled_met n 0 0 a b (λ j out. h j))
 
 -- the filled pages of an image are those of its pages, if these hold zeros past its size
 pub filled_cut : (n size : ℕ) (all : List ℕ) → ((p : ℕ) → size ≤ p → slice_index all p ≡ 0) → size ≤ 256 * n → filled_pages (take size all) ≡ filled_from n all
@@ -114,13 +104,10 @@ filled_step (suc n) zero a b l e h =
     (λ p k. get_or-drop 256 a p 0 ∙ h (256 + p) (λ q. omega arith) ∙ sym (get_or-drop 256 b p 0)) in
     omega (arith, ap (filled_from n) rest)
 filled_step (suc n) (suc i) a b l e h =
-    let first : take 256 a ≡ take 256 b =
-    ext_get_or 0 (take 256 a) (take 256 b) (simp length-take (omega arith))
-    (λ p k. let low : p < 256 = omega (arith, length-take 256 a) in get_or-take 256 a p 0 low ∙ h p (λ q. omega arith) ∙ sym (get_or-take 256 b p 0 low)) in
-    let less : length (drop 256 a) ≡ length (drop 256 b) = simp length-drop (omega arith) in
-    let more = filled_step n i (drop 256 a) (drop 256 b) (omega arith) less
+    let first : take 256 a ≡ take 256 b = page_same a b 0 e (λ p q. h p (λ r. omega arith)) in
+    let more = filled_step n i (drop 256 a) (drop 256 b) (omega arith) (simp length-drop (omega arith))
     (λ p q. get_or-drop 256 a p 0 ∙ h (256 + p) (λ s. q (omega arith)) ∙ sym (get_or-drop 256 b p 0)) in
-    omega (arith, ap {B = ℕ} (λ c. cond (blank c) 0 1) first, ap {B = ℕ} (λ c. cond (blank c) 0 1) (page_on a i), ap {B = ℕ} (λ c. cond (blank c) 0 1) (page_on b i))
+    omega (arith, weight (ap blank first), weight (ap blank (page_on a i)), weight (ap blank (page_on b i)))
 
 pub page_blank : (a : List ℕ) (i : ℕ) → ((r : ℕ) → slice_index a (256 * i + r) ≡ 0) → blank (page_of a i) ≡ true
 page_blank a i z = blank_all (page_of a i) (λ r. take_mono 256 (drop (256 * i) a) [] r (λ e. get_or-drop (256 * i) a r 0 ∙ z r) refl)

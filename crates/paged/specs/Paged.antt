@@ -4,7 +4,7 @@ use Rattle.std.specs.Prelude.{◌≡◌, ℕ, ◌*◌, false, List, length, take
 use Rattle.std.proofs.Math.Nat.{le_trans, mul-le-mul_left, min-le_right}
 use Rattle.std.proofs.Common.{lit≤}
 use Rattle.std.proofs.lemmas.Bool.{leb-true, and_parts}
-use Rattle.fault.specs.declared.kinds.Fault.{Fault}
+use Rattle.fault.specs.declared.fault.Fault.{Fault}
 use Rattle.store.specs.Stores.{Images, Laws}
 use Rattle.paged.specs.declared.pages.TheConstants.{PAGE, PLACES}
 use Rattle.paged.specs.declared.image.PagedImage.{PagedImage}

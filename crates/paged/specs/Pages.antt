@@ -1,6 +1,6 @@
 -- Pages in a pool, and a map from the pages of an image to them. Rests on the contract of a store.
-use Rattle.std.specs.Prelude.{◌≡◌, ℕ, zero, suc, ◌+◌, ◌-◌, ◌*◌, ◌/◌, ◌<◌, ◌≤◌, min, Bool, true, if◌then◌else◌, ◌&&◌, List, [], ◌∷◌, length, take, drop, replicate, ◌==◌, nat_le, slice_index}
-use Rattle.std.specs.List.{flat_map}
+use Rattle.std.specs.Prelude.{◌≡◌, ℕ, zero, suc, ◌+◌, ◌-◌, ◌*◌, ◌/◌, ◌<◌, ◌≤◌, min, Bool, true, if◌then◌else◌, ◌&&◌, List, length, take, drop, replicate, ◌==◌, nat_le, slice_index}
+use Rattle.std.specs.List.{flat_map, list_all}
 use Rattle.paged.specs.declared.pages.TheConstants.{PAGE, PLACES, POOL}
 use Rattle.store.specs.Images.{part}
 use Rattle.store.specs.Stores.{Images}
@@ -45,8 +45,7 @@ pub record PartOf (offset count i d m from : ℕ) : Type 0 where
 
 -- only zeros
 abbrev pub blank : List ℕ → Bool
-blank [] = true
-blank (b ∷ bs) = b == 0 && blank bs
+blank bytes = list_all (λ b. b == 0) bytes
 
 -- the pages, among the first n, that have a non-zero byte
 abbrev pub filled_from : ℕ → List ℕ → ℕ
@@ -112,12 +111,14 @@ pub record PagesPlaced (table pool spare : List ℕ) (used : ℕ) : Type 0 where
 -- what each change of a range keeps: pool pages go to the pages with a non-zero byte alone
 pub record SoundPages (table pool spare : List ℕ) (used : ℕ) : Type 0 where
   pub placed : PagesPlaced table pool spare used
+  pub long : length (all_pages table pool) ≡ PAGE * places table
   pub filled : Filled table pool
   pub counted : used ≡ filled_from (places table) (all_pages table pool)
   pub room : used ≤ pool_pages pool
 
 -- what an image of a size has beside sound pages
 pub record Valid (table pool : List ℕ) (used size : ℕ) : Type 0 where
+  pub fits : size ≤ PAGE * places table
   pub long : length (take size (all_pages table pool)) ≡ size
   pub held : paged_set table pool (take size (all_pages table pool)) ≡ true
   pub counted : used ≡ filled_pages (take size (all_pages table pool))

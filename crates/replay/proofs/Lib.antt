@@ -1,3 +1,3 @@
 mod Windows
-mod Turns
-mod Replayed
+mod RequestSeries
+mod ReplayPromise

@@ -2,7 +2,7 @@
 -- that it gets, and what is left in the end. Rests on series of calls and their outcomes, on the
 -- promise about them, on tables, on requests and on the images of a store.
 use Rattle.std.specs.Prelude.{◌≡◌, ℕ, ◌+◌, List, [], ◌∷◌, ◌++◌, map, length, take, drop, Ok, Err, Result}
-use Rattle.fault.specs.declared.kinds.Fault.{Fault}
+use Rattle.fault.specs.declared.fault.Fault.{Fault}
 use Rattle.store.specs.Stores.{Images}
 use Rattle.table.specs.Tables.{Table, empty_table}
 use Rattle.replay.specs.declared.requests.Request.{Request}
@@ -19,10 +19,6 @@ window v buffer = take v.length (drop v.start buffer)
 
 abbrev pub with_window : Window → List ℕ → List ℕ → List ℕ
 with_window v part buffer = take v.start buffer ++ (part ++ drop (v.start + v.length) buffer)
-
--- the outcome of a call that got a window of a buffer, with the whole buffer
-abbrev pub outcome_in_window : Window → List ℕ → CallOutcome → CallOutcome
-outcome_in_window v buffer o = record o { buffer = with_window v o.buffer buffer }
 
 -- the call that is asked for
 abbrev pub call_asked : List ℕ → Request → Call
@@ -105,10 +101,6 @@ module _ (holds : Images) where
     pub promised : ComesBack before.image
         (events holds (first_scene name before).world (calls_made (first_scene name before) (take (length before.answers) rs)))
         (scene_in after t).world
-
-  -- the same of a shelf that was made with a name
-  abbrev pub ReplaysIfNew : List Request → Table → Table → Setting → Setting → Type 0
-  ReplaysIfNew rs new t before after = (name : List ℕ) → Ok new ≡ make_answer name → Replays name rs t before after
 
   -- or a name that is refused, and then nothing is changed
   pub record Unmade (name : List ℕ) (f : Fault) (before after : Setting) : Type 0 where

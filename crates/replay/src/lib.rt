@@ -1,7 +1,6 @@
 //! Series of calls on a shelf that are really made, with what the shelf promises of their run.
 #![tactic(auto)]
 
-mod handing;
 mod replays;
 mod requests;
 

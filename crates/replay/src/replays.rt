@@ -1,17 +1,25 @@
 // Series of calls on a shelf, made one after another.
 ghost use Rattle.std.specs.Prelude.{◌≡◌, ℕ, List, length, Ok};
-ghost use Rattle.replay.specs.Replays.{scene, request_outcome, setting, ReplaysIfNew, Replayed, largest_replay_size};
-ghost use Rattle.shelf.specs.Outcomes.{outcome, make_answer};
+ghost use Rattle.replay.specs.Replays.{scene, request_outcome, setting, Replays, Replayed, largest_replay_size};
+ghost use Rattle.shelf.specs.Outcomes.{outcome, done_count, make_answer};
 ghost use Rattle.shelf.specs.Promise.{AlwaysComesBack};
 ghost use Rattle.store.specs.Stores.{KeepsPast};
 
-use crate::handing::{join_handed, list_handed, put_handed, settle_handed};
 use crate::requests::Request;
 use fault::Fault;
 use shelf::{Shelf, laws_of_the_shelf};
 use store::Store;
 
-// Makes one call of a series.
+// The answer of a call that returns nothing, as one that returns a number.
+fn done_count(r: Result<(), Fault>) -> Result<usize, Fault>
+    ensures { result ≡ done_count r }
+{
+    r.map(|()| 0)
+}
+
+// Makes one call of a series. It gets the first bytes of the shelf's memory; a join and a list get
+// their window of the buffer besides.
+#[tactic(auto, using(std::proofs::lemmas::Grind::common_steps, crate::proofs::Windows::handed_is, crate::proofs::Windows::beyond_is, crate::proofs::Windows::window_is, crate::proofs::Windows::with_is))]
 fn make_call<S: Store>(
     shelf: &mut Shelf,
     base: &mut S,
@@ -28,19 +36,35 @@ fn make_call<S: Store>(
         (scene shelf.old bytes.old (S.image base.old) buffer.old) request.entry }
     ensures past { KeepsPast S.past base.old base.new (length (S.image base.new)) }
 {
+    let length = bytes.len();
+    let room = buffer.len();
     match request {
-        Request::Put { handed, stream } => put_handed(shelf, bytes, handed, stream),
+        Request::Put { handed, stream } => {
+            done_count(shelf.put(&mut bytes[0..handed.min(length)], stream))
+        }
         Request::Join {
             handed,
             entry,
             work,
-        } => join_handed(shelf, bytes, handed, entry, buffer, work),
-        Request::Settle { handed } => settle_handed(shelf, bytes, handed, base),
+        } => {
+            let places = work.within(room);
+            shelf.join(
+                &mut bytes[0..handed.min(length)],
+                entry,
+                &mut buffer[places],
+            )
+        }
+        Request::Settle { handed } => {
+            done_count(shelf.settle(&mut bytes[0..handed.min(length)], base))
+        }
         Request::List {
             handed,
             entry,
             text,
-        } => list_handed(shelf, bytes, handed, entry, buffer, text),
+        } => {
+            let places = text.within(room);
+            shelf.list(&bytes[0..handed.min(length)], entry, &mut buffer[places])
+        }
     }
 }
 
@@ -57,7 +81,8 @@ fn play<S: Store>(
     ensures past { (name : List ℕ) → Ok shelf.old ≡ make_answer name
         → KeepsPast S.past base.old base.new (largest_replay_size (S.holds base.old) name requests.now
         (setting bytes.old (S.image base.old) buffer.old answers.old)) }
-    ensures replays { ReplaysIfNew (S.holds base.old) requests.now shelf.old shelf.new
+    ensures replays { (name : List ℕ) → Ok shelf.old ≡ make_answer name
+        → Replays (S.holds base.old) name requests.now shelf.new
         (setting bytes.old (S.image base.old) buffer.old answers.old)
         (setting bytes.new (S.image base.new) buffer.new answers.new) }
 {

@@ -3,10 +3,10 @@
 use Rattle.std.proofs.Common.{◌≡◌, ℕ, ◌^◌, ◌<◌, List, [], ◌∷◌, ◌++◌, length, sym, refl, ap, ◌∙◌, arith}
 use Rattle.std.specs.List.{AllByRecursion}
 use Rattle.std.proofs.lemmas.List.{map-append}
-use Rattle.overlay.proofs.Overlaid.{overlaid_length}
+use Rattle.overlay.proofs.OverlayLaws.{overlaid_length}
 use Rattle.stream.specs.Meaning.{zeroed, ranges}
 use Rattle.stream.specs.Difference.{Difference, join_difference, image_after}
-use Rattle.join.proofs.InTurn.{joined_bracketing, ranges_overlaid}
+use Rattle.join.proofs.Associativity.{joined_bracketing, ranges_overlaid}
 use Rattle.shelf.specs.Ledger.{Stretch, streams_of, both}
 use Rattle.shelf.specs.Stretches.{difference_in, differences_in, applied_all, joined_all, stretch_join, overlay_all, overlay_from}
 

@@ -1,18 +1,18 @@
-pub mod Plans
-pub mod Spliced
-mod Done
-mod Owned
-pub mod Pieces
+pub mod CallPlans
+pub mod Splices
+mod CallSteps
+mod EntryRecords
+pub mod ListParts
 pub mod Algebra
-pub mod Tabled
-pub mod Standing
-pub mod Entered
-pub mod Changes
-pub mod Accepts
-pub mod Stretched
-pub mod Kept
-pub mod Settled
-pub mod Stepped
-pub mod Refused
-pub mod Shown
-pub mod Promised
+pub mod TableOperations
+pub mod ShelfDifferences
+pub mod EntryReading
+pub mod ShelfChanges
+pub mod AcceptedStreams
+pub mod StretchJoins
+pub mod SeriesInvariant
+pub mod SettleSteps
+pub mod SeriesSteps
+pub mod CallRefusals
+pub mod EntryLists
+pub mod SeriesPromise

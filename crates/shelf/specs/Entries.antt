@@ -2,8 +2,8 @@
 -- table, on what a stream means, and on faults.
 use Rattle.std.specs.Prelude.{ℕ, ◌+◌, ◌-◌, Bool, if◌then◌else◌, not, ◌&&◌, List, ◌++◌, map, length, take, drop, Ok, Err, Result, nat_le, nat_lt}
 use Rattle.fault.specs.Fault.{fault, fault_by, in_entry, and_then}
-use Rattle.fault.specs.declared.kinds.Cause.TheVariants.{NoEntry, Damaged}
-use Rattle.fault.specs.declared.kinds.Fault.{Fault}
+use Rattle.fault.specs.declared.cause.Cause.TheVariants.{NoEntry, Damaged}
+use Rattle.fault.specs.declared.fault.Fault.{Fault}
 use Rattle.stream.specs.Bytes.{field}
 use Rattle.stream.specs.Verdict.{same}
 use Rattle.stream.specs.Difference.{Difference, meaning, canonical_bytes}

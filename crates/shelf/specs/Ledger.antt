@@ -2,7 +2,7 @@
 -- each entry. It gets every call with its arguments and whether it was refused, and nothing else.
 -- Rests on the calls alone.
 use Rattle.std.specs.Prelude.{ℕ, zero, suc, Bool, if◌then◌else◌, List, [], ◌∷◌, ◌++◌, fold}
-use Rattle.std.specs.List.{flat_map as strung}
+use Rattle.std.specs.List.{flat_map}
 use Rattle.shelf.specs.Calls.{Call, put, join, settle}
 
 -- a stretch: successive streams, at least one, oldest first
@@ -34,22 +34,16 @@ pub record Ledger : Type 0 where
 abbrev pub empty_ledger : Ledger
 empty_ledger = record { settled = []; stretches = [] }
 
--- put begins a new last stretch, join unites two neighbours, settle moves the first stretch to the
--- end of the settled streams
-abbrev pub put_down : Ledger → List ℕ → Ledger
-put_down l stream = record l { stretches = l.stretches ++ (lone stream ∷ []) }
-
-abbrev pub joined_at : Ledger → ℕ → Ledger
-joined_at l i = record l { stretches = neighbours_as_one both i l.stretches }
-
+-- the first stretch moved to the end of the settled streams
 abbrev pub settle_first : Ledger → List Stretch → Ledger
 settle_first l [] = record l { stretches = [] }
 settle_first l (s ∷ ss) = record l { settled = l.settled ++ streams_of s; stretches = ss }
 
--- what a call that was not refused does to the ledger, and the streams that it accepts
+-- what a call that was not refused does to the ledger, and the streams that it accepts: put begins
+-- a new last stretch, join unites two neighbours, settle moves the first stretch
 abbrev pub ledger_after : Ledger → Call → Ledger
-ledger_after l (put handed stream) = put_down l stream
-ledger_after l (join handed i work) = joined_at l i
+ledger_after l (put handed stream) = record l { stretches = l.stretches ++ (lone stream ∷ []) }
+ledger_after l (join handed i work) = record l { stretches = neighbours_as_one both i l.stretches }
 ledger_after l (settle handed) = settle_first l l.stretches
 ledger_after l c = l
 
@@ -73,4 +67,4 @@ abbrev pub streams_accepted_by : Fed → List (List ℕ)
 streams_accepted_by f = if f.refused then [] else accepts f.call
 
 abbrev pub accepted_streams : List Fed → List (List ℕ)
-accepted_streams fs = strung streams_accepted_by fs
+accepted_streams fs = flat_map streams_accepted_by fs

@@ -1,6 +1,5 @@
 pub mod TableLaws
 pub mod Entries
-pub mod Shelves
 pub mod Outcomes
 pub mod Steps
 pub mod Planned

@@ -1,19 +1,19 @@
 -- The calls of a shelf: for each call, the checks in their order, and its outcome: what it answers,
 -- and what the table, the bytes, the image and the buffer then hold. A refusal changes nothing, but
 -- for the image where the store stops a settle. Rests on faults, on the table and its entries, on
--- what a stream means, on which names a writer takes, on buffers, on the list's text, on the images
--- of a store and on what applying records does.
+-- what a stream means, on the limit of joins, on which names a writer takes, on buffers, on the
+-- list's text, on the images of a store and on what applying records does.
 use Rattle.std.specs.Prelude.{ℕ, ◌+◌, not, ◌||◌, List, [], ◌++◌, length, drop, Ok, Err, Result, ◌==◌, nat_le, nat_lt}
 use Rattle.fault.specs.Fault.{fault, fault_by, at_layer, in_entry, and_then}
-use Rattle.fault.specs.declared.kinds.Cause.TheVariants.{BadName, NamesDiffer, TooManyRanges, ShortBuffer, ShelfFull, NameTaken, Damaged}
-use Rattle.fault.specs.declared.kinds.Fault.{Fault}
-use Rattle.fault.specs.declared.kinds.Layer.TheVariants.{Stream, Join, Shelf}
+use Rattle.fault.specs.declared.cause.Cause.TheVariants.{BadName, NamesDiffer, ShortBuffer, ShelfFull, NameTaken, Damaged}
+use Rattle.fault.specs.declared.fault.Fault.{Fault}
+use Rattle.fault.specs.declared.layer.Layer.TheVariants.{Stream, Join, Shelf}
 use Rattle.stream.specs.Buffers.{written_answer}
 use Rattle.stream.specs.Verdict.{same}
 use Rattle.stream.specs.Meaning.{ranges}
 use Rattle.stream.specs.Difference.{Difference, meaning, join_difference, canonical_records, canonical_bytes}
-use Rattle.stream.specs.declared.kinds.TheConstants.{MOST_RECORDS}
 use Rattle.writer.specs.Calls.{good_name}
+use Rattle.join.specs.Plans.{within_limit}
 use Rattle.listing.specs.Text.{listing}
 use Rattle.store.specs.Stores.{Images, Outcome}
 use Rattle.apply.specs.Applies.{apply_records}
@@ -89,8 +89,7 @@ finds_room t bytes i work n =
 -- fits into the work buffer and onto the shelf
 abbrev pub join_fits : Table → List ℕ → ℕ → List ℕ → Difference → Result Difference Fault
 join_fits t bytes i work d =
-    refuse_if (nat_lt MOST_RECORDS (length (ranges d.cells))) (fault TooManyRanges 0)
-    (and_then (finds_room t bytes i work (length (canonical_bytes d))) (λ _. Ok d))
+    and_then (within_limit d (length (canonical_bytes d))) (λ n. and_then (finds_room t bytes i work n) (λ _. Ok d))
 
 unfoldable pub join_plan : Table → List ℕ → ℕ → List ℕ → Result Difference Fault
 join_plan t bytes i work =

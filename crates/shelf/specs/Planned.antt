@@ -1,12 +1,12 @@
 -- A stream that was read and whose plan was found: what it means, and what the calls of a shelf
 -- need of it. Rests on streams that were read, their differences and ranges, and on plans.
 use Rattle.std.specs.Prelude.{◌≡◌, ◌≤◌, List, take, Ok, Err, Result}
-use Rattle.fault.specs.declared.kinds.Fault.{Fault}
+use Rattle.fault.specs.declared.fault.Fault.{Fault}
 use Rattle.join.specs.Plans.{plan_of}
 use Rattle.overlay.specs.declared.payloads.Side.{Side}
 use Rattle.overlay.specs.declared.ranges.RangeMark.{RangeMark}
 use Rattle.overlay.specs.declared.runs.Run.{Run}
-use Rattle.stream.specs.declared.kinds.TheConstants.{MOST_RECORDS}
+use Rattle.stream.specs.declared.limits.TheConstants.{MOST_RECORDS}
 use Rattle.stream.specs.Difference.{Difference, meaning, canonical_bytes}
 use Rattle.stream.specs.Meaning.{ranges}
 use Rattle.stream.specs.Streams.{stream_cells, stream_difference, OnSide}

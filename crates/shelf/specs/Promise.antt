@@ -3,8 +3,8 @@
 -- faults, on what reading a stream promises, on the list's text, and on the images of a store.
 use Rattle.std.specs.Prelude.{◌≡◌, ℕ, ◌<◌, ◌≤◌, List, [], ◌∷◌, ◌++◌, map, length, take, drop, Ok, Err, slice_index_or}
 use Rattle.fault.specs.Fault.{fault}
-use Rattle.fault.specs.declared.kinds.Cause.TheVariants.{NoEntry}
-use Rattle.std.specs.List.{flat_map as strung, AllByRecursion}
+use Rattle.fault.specs.declared.cause.Cause.TheVariants.{NoEntry}
+use Rattle.std.specs.List.{flat_map, AllByRecursion}
 use Rattle.listing.specs.Text.{listing}
 use Rattle.store.specs.Stores.{Images}
 use Rattle.stream.specs.Difference.{meaning}
@@ -30,7 +30,7 @@ pub record ComesBack (first : List ℕ) (es : List Event) (w : World) : Type 0 w
   pub accepted_are_streams : AllByRecursion (λ stream. meaning stream ≡ Ok (difference_in stream)) (accepted_streams (map fed_call es))
   -- the ledger cuts the accepted streams into those settled and a stretch for each shelf stream,
   -- which is the canonical join of its stretch, byte for byte
-  pub cut : (ledger (map fed_call es)).settled ++ strung streams_of (ledger (map fed_call es)).stretches ≡ accepted_streams (map fed_call es)
+  pub cut : (ledger (map fed_call es)).settled ++ flat_map streams_of (ledger (map fed_call es)).stretches ≡ accepted_streams (map fed_call es)
   pub canonical_joins : shelf_streams w.table w.bytes ≡ map stretch_stream (ledger (map fed_call es)).stretches
   -- no entry is ever damaged: in bytes that reach the fill it reads as the join of its stretch
   pub entries_read : (k i : ℕ) → i < length w.table.rows → w.table.fill ≤ length (take k w.bytes)

@@ -1,8 +1,8 @@
 -- What a refused call leaves: everything as it was, but for the image where the store stopped a
 -- settle. Rests on series of calls, on faults and on the images of a store.
 use Rattle.std.specs.Prelude.{◌≡◌, ℕ, List, Err, ◌≢◌}
-use Rattle.fault.specs.declared.kinds.Cause.TheVariants.{NoRoom}
-use Rattle.fault.specs.declared.kinds.Fault.{Fault}
+use Rattle.fault.specs.declared.cause.Cause.TheVariants.{NoRoom}
+use Rattle.fault.specs.declared.fault.Fault.{Fault}
 use Rattle.store.specs.Stores.{Images}
 use Rattle.shelf.specs.Calls.{Call, settle, buffer_in}
 use Rattle.shelf.specs.Series.{World, outcome_of}

@@ -2,7 +2,7 @@
 -- what is there in the end. Rests on the calls and their outcomes, on the events of the ledger, on
 -- the table, on faults and on the images of a store.
 use Rattle.std.specs.Prelude.{ℕ, max, List, [], ◌∷◌, ◌++◌, length, take, drop, is_err, Result}
-use Rattle.fault.specs.declared.kinds.Fault.{Fault}
+use Rattle.fault.specs.declared.fault.Fault.{Fault}
 use Rattle.store.specs.Stores.{Images}
 use Rattle.table.specs.Tables.{Table, empty_table}
 use Rattle.shelf.specs.Outcomes.{CallOutcome, put_outcome, join_outcome, settle_outcome, list_outcome}

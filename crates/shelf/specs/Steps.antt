@@ -2,7 +2,7 @@
 -- shelf. Rests on the outcomes of the calls, and on the table and its entries.
 use Rattle.std.specs.Prelude.{ℕ, ◌+◌, ◌<◌, ◌≤◌, List, ◌++◌, length, take, drop, Ok, Err, Result}
 use Rattle.fault.specs.Fault.{and_then}
-use Rattle.fault.specs.declared.kinds.Fault.{Fault}
+use Rattle.fault.specs.declared.fault.Fault.{Fault}
 use Rattle.stream.specs.Difference.{Difference, join_difference, canonical_bytes}
 use Rattle.table.specs.declared.table.TheConstants.{MOST_ENTRIES}
 use Rattle.table.specs.Tables.{Table, unite_rows}

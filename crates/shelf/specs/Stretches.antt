@@ -2,7 +2,7 @@
 -- oldest first. Rests on the ledger's stretches, on what a stream means, and on how ranges are
 -- overlaid.
 use Rattle.std.specs.Prelude.{ℕ, List, [], ◌∷◌, map, length, Ok, Err, Result}
-use Rattle.fault.specs.declared.kinds.Fault.{Fault}
+use Rattle.fault.specs.declared.fault.Fault.{Fault}
 use Rattle.overlay.specs.declared.runs.Run.{Run}
 use Rattle.overlay.specs.declared.ranges.RangeMark.{RangeMark}
 use Rattle.overlay.specs.Marks.{range_moves, range_alike, range_filler}

@@ -2,7 +2,7 @@
 -- that are not touched stay, or move and nothing else. Rests on Tables.
 use Rattle.std.specs.Prelude.{◌≡◌, ℕ, suc, ◌+◌, ◌<◌, ◌≤◌, List, length}
 use Rattle.table.specs.declared.table.TheConstants.{MOST_ENTRIES}
-use Rattle.table.specs.Tables.{Table, empty_table, end_of, row_at, next_name, moved_row, one_row, add_row, unite_rows, drop_row, LaidOut, LeadsOn}
+use Rattle.table.specs.Tables.{Table, empty_table, end_of, row_at, next_name, moved_row, united_row, add_row, unite_rows, drop_row, LaidOut, LeadsOn}
 
 pub record LawsOfTables : Type 0 where
   -- the number of the rules that a constant has
@@ -25,7 +25,7 @@ pub record LawsOfTables : Type 0 where
   pub dropped_count : (t : Table) → 0 < length t.rows → suc (length (drop_row t).rows) ≡ length t.rows
   -- what each entry is then
   pub united_before : (t : Table) (i n k : ℕ) → i + 1 < length t.rows → k < i → row_at (unite_rows t i n) k ≡ row_at t k
-  pub united_here : (t : Table) (i n : ℕ) → i + 1 < length t.rows → row_at (unite_rows t i n) i ≡ one_row n (row_at t i) (row_at t (i + 1))
+  pub united_here : (t : Table) (i n : ℕ) → i + 1 < length t.rows → row_at (unite_rows t i n) i ≡ united_row n (row_at t (i + 1)).to (row_at t i)
   pub united_after : (t : Table) (i n k : ℕ) → i < k → k + 1 < length t.rows
       → row_at (unite_rows t i n) k ≡ moved_row (end_of (row_at t (i + 1))) ((row_at t i).place + n) (row_at t (k + 1))
   pub dropped_after : (t : Table) (k : ℕ) → k + 1 < length t.rows → row_at (drop_row t) k ≡ moved_row (end_of (row_at t 0)) 0 (row_at t (k + 1))

@@ -1,22 +1,24 @@
 ghost use Rattle.std.specs.Prelude.{◌≡◌, ◌+◌, ◌<◌, ◌≤◌, length, IfOk, Ok};
-ghost use Rattle.fault.specs.Fault.{fault};
-ghost use Rattle.fault.specs.declared.kinds.Cause.TheVariants as causes;
+ghost use Rattle.fault.specs.Fault.{fault, and_then};
+ghost use Rattle.fault.specs.declared.cause.Cause.TheVariants as causes;
+ghost use Rattle.join.specs.Plans.{plan_of};
+ghost use Rattle.stream.specs.Difference.{meaning};
 ghost use Rattle.stream.specs.Verdict.{check_answer};
 ghost use Rattle.table.specs.Entries.{row_of};
 ghost use Rattle.table.specs.declared.table.TheConstants.{MOST_ENTRIES};
 ghost use Rattle.shelf.specs.Entries.{refuse_if, is_short, are_there, slice, entry};
-ghost use Rattle.shelf.specs.Planned.{planned_meaning, PlanHolds, IsOwn};
+ghost use Rattle.shelf.specs.Outcomes.{put_fits};
+ghost use Rattle.shelf.specs.Planned.{planned_difference, planned_meaning, PlanHolds, IsOwn};
+ghost use Rattle.shelf.specs.Steps.{HasRoom};
 
-use crate::entries::read_row;
 use crate::planned::Planned;
-use fault::{Cause, Fault, Located};
+use fault::{Cause, Fault, Layer, Located};
 use overlay::Side;
 use stream::{Ranges, RunBuffer};
-use table::{Entry, EntryTable};
+use table::{Entry, EntryTable, MOST_ENTRIES};
 
-// What a shelf holds: its table, and the bytes that a call got, which reach the table's fill. It is
-// made where a call looks at the entries. Functions that change table and bytes take the two as
-// `&mut`.
+// What a shelf holds: its table, and the bytes that a call got, which reach the table's fill. The
+// checks of each call make it. Functions that change table and bytes take the two as `&mut`.
 #[derive(Clone, Copy)]
 pub(crate) struct Contents<'a> {
     pub(crate) table: &'a EntryTable,
@@ -82,6 +84,48 @@ impl<'a> Contents<'a> {
         ensures plan { IfOk result (λ p. PlanHolds p ranges.new) }
     {
         let row = self.table.entry(i);
-        read_row(row, self.stream(row), side, runs, ranges).in_entry(i as u64)
+        Planned::of_row(row, self.stream(row), side, runs, ranges).in_entry(i as u64)
+    }
+
+    // Refuses a stream that may not be added: it has to lead on to a new name, and to find room in
+    // the table and, for its canonical stream, in the bytes.
+    #[tactic(auto, using(join::proofs::StreamLengths::stream_short))]
+    fn check_fit(self, planned: Planned) -> Result<(), Fault>
+        requires { planned.plan ≡ plan_of (planned_difference planned) }
+        ensures { and_then result (λ _. Ok (planned_difference planned.entry))
+            ≡ put_fits self.entry.table.now self.entry.bytes.now (planned_difference planned.entry) }
+    {
+        if !self.table.next_name().is(planned.stream.from) {
+            return Err(Fault::new(Cause::NamesDiffer, 0).at_layer(Layer::Shelf));
+        }
+        if self.table.count() >= MOST_ENTRIES {
+            return Err(Fault::new(Cause::ShelfFull, 0));
+        }
+        if self.table.is_taken(planned.stream.to) {
+            return Err(Fault::new(Cause::NameTaken, 0));
+        }
+        let needed = self.table.fill() as u64 + planned.plan.length;
+        if (self.bytes.len() as u64) < needed {
+            return Err(Fault::new(Cause::ShortBuffer, needed).at_layer(Layer::Shelf));
+        }
+        Ok(())
+    }
+
+    // Reads a stream that is to be added, and finds its plan. Refuses one that may not be added.
+    pub(crate) fn fit<'s, 'r>(
+        self,
+        stream: &'s [u8],
+        runs: &'r mut RunBuffer,
+        ranges: &mut Ranges,
+    ) -> Result<Planned<'s, 'r>, Fault>
+        ensures means { planned_meaning result
+            ≡ and_then (meaning stream.now) (put_fits self.entry.table.now self.entry.bytes.now) }
+        ensures room { IfOk result
+            (λ p. HasRoom self.entry.table.now self.entry.bytes.now (planned_difference p)) }
+        ensures plan { IfOk result (λ p. PlanHolds p ranges.new) }
+    {
+        let planned = Planned::read(stream, Side::Later, runs, ranges)?;
+        self.check_fit(planned)?;
+        Ok(planned)
     }
 }

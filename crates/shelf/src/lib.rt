@@ -6,10 +6,7 @@ ghost use Rattle.shelf.specs.Promise.{AlwaysComesBack};
 ghost use Rattle.shelf.specs.Refusals.{RefusalsAlterNothing};
 ghost use Rattle.shelf.specs.TableLaws.{LawsOfTables};
 
-mod bytes;
 mod contents;
-mod entries;
-mod joins;
 mod lists;
 mod moves;
 mod neighbours;

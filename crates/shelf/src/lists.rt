@@ -11,7 +11,7 @@ use table::EntryTable;
 
 // Writes the ranges of entry i as text to the first bytes of `text`; the answer is the text's
 // length.
-#[tactic(auto, using(crate::proofs::Done::listed), unfolding(crate::specs::Outcomes::list_plan))]
+#[tactic(auto, using(crate::proofs::CallSteps::listed), unfolding(crate::specs::Outcomes::list_plan))]
 pub(crate) fn list_entry(
     table: &EntryTable,
     bytes: &[u8],

@@ -4,12 +4,12 @@ ghost use Rattle.std.specs.Prelude.{◌≡◌, ◌+◌, ◌^◌, ◌<◌, ◌≤
 ghost use Rattle.join.specs.Joins.{pair_join, pair_meant};
 ghost use Rattle.table.specs.declared.table.TheConstants.{MOST_ENTRIES};
 ghost use Rattle.shelf.specs.Entries.{are_there};
-ghost use Rattle.shelf.specs.Outcomes.{united_fill, finds_room, join_fits};
-ghost use Rattle.shelf.specs.Steps.{neighbours_join, stream_answer, stream_buffer};
+ghost use Rattle.shelf.specs.Outcomes.{united_fill, finds_room, join_fits, join_outcome};
+ghost use Rattle.shelf.specs.Steps.{MayUnite, united_outcome, neighbours_join, stream_answer, stream_buffer};
 ghost use Rattle.stream.specs.Verdict.{check_answer};
 
 use crate::contents::Contents;
-use fault::{Cause, Fault, Layer};
+use fault::{Cause, Fault, Layer, Located};
 use join::Pair;
 use overlay::{RangeMark, Run, Side};
 use stream::{MOST_RECORDS, RunBuffer};
@@ -106,4 +106,24 @@ impl<'a> Neighbours<'a> {
         pair.write(&ranges[..count], work);
         Ok(byte_count)
     }
+}
+
+// Writes the join of entries i and i + 1 to the first bytes of the work buffer, if it may take
+// their place; the answer is its length.
+#[tactic(auto, using(crate::proofs::CallSteps::may_unite, crate::proofs::CallSteps::joined), unfolding(crate::specs::Outcomes::join_plan))]
+pub(crate) fn write_join(
+    table: &EntryTable,
+    bytes: &[u8],
+    i: usize,
+    work: &mut [u8],
+) -> Result<usize, Fault>
+    ensures outcome { united_outcome table.now bytes.now i work.new result
+        ≡ join_outcome table.now bytes.now i work.old }
+    ensures unite { IfOk result (MayUnite table.now bytes.now i work.new) }
+{
+    let two = Neighbours::of(table, bytes, i)?;
+    let mut earlier_runs = RunBuffer::new();
+    let mut later_runs = RunBuffer::new();
+    let pair = two.read(&mut earlier_runs, &mut later_runs)?;
+    two.write(pair, work).in_entry(i as u64)
 }

@@ -27,7 +27,7 @@ fn apply_own<S: Store>(planned: Planned, store: &mut S) -> Result<(), Fault>
 }
 
 // Applies entry 0 to the image of a store.
-#[tactic(auto, using(crate::proofs::Done::may_leave), unfolding(crate::specs::Outcomes::settle_plan))]
+#[tactic(auto, using(crate::proofs::CallSteps::may_leave), unfolding(crate::specs::Outcomes::settle_plan))]
 pub(crate) fn apply_first<S: Store>(
     table: &EntryTable,
     bytes: &[u8],

@@ -1,16 +1,15 @@
-ghost use Rattle.std.specs.Prelude.{◌≡◌, map, length};
+ghost use Rattle.std.specs.Prelude.{◌≡◌, map, length, slice_get};
 ghost use Rattle.std.specs.Option.{option_map};
 ghost use Rattle.shelf.specs.Outcomes.{outcome, done_count, make_answer};
 ghost use Rattle.shelf.specs.Outcomes.{put_outcome, join_outcome, settle_outcome, list_outcome};
-ghost use Rattle.shelf.specs.Shelves.{row_if};
 ghost use Rattle.store.specs.Stores.{KeepsPast};
 ghost use Rattle.table.specs.Entries.{row_of};
 ghost use Rattle.table.specs.Names.{name_of};
 ghost use Rattle.table.specs.Tables.{LaidOut};
 
-use crate::joins::write_join;
 use crate::lists::list_entry;
 use crate::moves::{drop_entry, unite_entries};
+use crate::neighbours::write_join;
 use crate::puts::{add_planned, plan_put};
 use crate::settling::apply_first;
 use fault::{Cause, Fault, Layer};
@@ -150,7 +149,7 @@ impl Shelf {
 
     /// Entry i, if there is one.
     pub fn entry(&self, i: usize) -> Option<Entry>
-        ensures { option_map row_of result ≡ row_if self.now i }
+        ensures { option_map row_of result ≡ slice_get self.now.rows i }
     {
         self.entries().get(i).copied()
     }

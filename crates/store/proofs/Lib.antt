@@ -1,4 +1,3 @@
-pub mod Changes
-pub mod FlatMemory
+pub mod MemoryChanges
 pub mod ImageLaws
-pub mod Outcomes
+pub mod StoreOutcomes

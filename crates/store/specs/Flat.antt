@@ -4,8 +4,8 @@ use Rattle.std.proofs.Math.Nat.{le_trans, le_of_eq, min-le_left, min-le_right}
 use Rattle.std.proofs.lemmas.Bool.{le-leb, leb-true}
 use Rattle.std.proofs.lemmas.List.{length-take}
 use Rattle.store.specs.declared.contract.TheConstants.{LIMIT}
-use Rattle.store.specs.Stores.{Images, Laws, KeepsPast}
-use Rattle.store.specs.Memory.{MemoryRest, Changed, flat_room, flat_set}
+use Rattle.store.specs.Stores.{Images, Laws}
+use Rattle.store.specs.Memory.{MemoryRest, flat_room, flat_set}
 use Rattle.store.specs.declared.flat.FlatImage.{FlatImage}
 
 -- what the lent memory holds
@@ -23,11 +23,6 @@ flat_holds s = flat_set (flat_memory s)
 -- the lent memory from a position on
 abbrev pub flat_past : FlatImage → ℕ → MemoryRest
 flat_past s n = record { lender = s.bytes.ghost_name; bytes = drop n (flat_memory s) }
-
--- a change of the memory up to a position, after which the first bytes of a size are a new image
-pub record FlatChange (old new : FlatImage) (size : ℕ) (image' : List ℕ) (end : ℕ) : Type 0 where
-  pub changed : Changed size (flat_memory old) (flat_memory new) image'
-  pub past : KeepsPast flat_past old new end
 
 pub flat_laws : Laws flat_image flat_holds
 unfolding flat_set

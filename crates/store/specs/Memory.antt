@@ -1,5 +1,5 @@
 -- A piece of memory whose first bytes are an image. Rests on the contract of a store.
-use Rattle.std.specs.Prelude.{◌≡◌, ℕ, ◌≤◌, min, true, List, length, take, nat_le}
+use Rattle.std.specs.Prelude.{ℕ, min, List, length, nat_le}
 use Rattle.store.specs.declared.contract.TheConstants.{LIMIT}
 use Rattle.store.specs.Stores.{Images}
 
@@ -15,10 +15,3 @@ flat_set memory image = nat_le (length image) (flat_room memory)
 pub record MemoryRest : Type 0 where
   pub lender : ℕ
   pub bytes : List ℕ
-
--- the memory after a change: its first bytes are the new image, which it can hold
-pub record Changed (size : ℕ) (memory memory' image' : List ℕ) : Type 0 where
-  pub image : take size memory' ≡ image'
-  pub held : flat_set memory image' ≡ true
-  pub same : flat_set memory' ≡ flat_set memory
-  pub fits : size ≤ flat_room memory'

@@ -1,9 +1,9 @@
 -- The contract of a store: what each call answers, and what it leaves. Rests on the faults, and on
 -- what a call makes of an image.
 use Rattle.std.specs.Prelude.{◌≡◌, ℕ, ◌+◌, ◌≤◌, Bool, true, if◌then◌else◌, List, length, replicate, Ok, Err, Result, nat_le}
-use Rattle.fault.specs.declared.kinds.Cause.{Cause}
-use Rattle.fault.specs.declared.kinds.Cause.TheVariants.{Outside, NoRoom}
-use Rattle.fault.specs.declared.kinds.Fault.{Fault}
+use Rattle.fault.specs.declared.cause.Cause.{Cause}
+use Rattle.fault.specs.declared.cause.Cause.TheVariants.{Outside, NoRoom}
+use Rattle.fault.specs.declared.fault.Fault.{Fault}
 use Rattle.fault.specs.Fault.{fault}
 use Rattle.store.specs.declared.contract.TheConstants.{LIMIT}
 use Rattle.store.specs.Images.{part, image_with, image_of_size}

@@ -2,9 +2,9 @@
 -- Rests on faults.
 use Rattle.std.specs.Prelude.{ℕ, if◌then◌else◌, List, ◌++◌, length, drop, Ok, Err, Result, nat_lt}
 use Rattle.fault.specs.Fault.{fault, at_layer}
-use Rattle.fault.specs.declared.kinds.Cause.TheVariants.{ShortBuffer}
-use Rattle.fault.specs.declared.kinds.Fault.{Fault}
-use Rattle.fault.specs.declared.kinds.Layer.{Layer}
+use Rattle.fault.specs.declared.cause.Cause.TheVariants.{ShortBuffer}
+use Rattle.fault.specs.declared.fault.Fault.{Fault}
+use Rattle.fault.specs.declared.layer.Layer.{Layer}
 
 -- the bytes written, or a layer's refusal of a buffer too short, with the full length needed
 abbrev pub written_answer : Layer → List ℕ → List ℕ → Result ℕ Fault

@@ -2,14 +2,14 @@
 -- applying one makes of an image, and the one canonical stream of each. Rests on what records mean
 -- (Meaning), on their names and bytes (Records), on reading and faults, on which names are good
 -- (Wellformed), and on overlay's states.
-use Rattle.std.specs.Prelude.{ℕ, ◌^◌, ◌≤◌, List, [], ◌∷◌, ◌++◌, map, length, take, drop, Some, None, Ok, Option, Result}
+use Rattle.std.specs.Prelude.{ℕ, ◌≤◌, List, [], ◌∷◌, ◌++◌, map, length, take, drop, Some, None, Ok, Option, Result}
 use Rattle.fault.specs.Fault.{and_then}
-use Rattle.fault.specs.declared.kinds.Fault.{Fault}
+use Rattle.fault.specs.declared.fault.Fault.{Fault}
 use Rattle.overlay.specs.declared.runs.Run.{Run}
 use Rattle.overlay.specs.declared.ranges.RangeMark.{RangeMark}
 use Rattle.overlay.specs.declared.ranges.RangeMark.TheVariants as range
 use Rattle.overlay.specs.States.{first_or, rest, overlay_states}
-use Rattle.stream.specs.declared.kinds.TheConstants.{MOST_RECORDS, LARGEST_SIZE}
+use Rattle.stream.specs.declared.limits.TheConstants.{MOST_RECORDS, LARGEST_SIZE}
 use Rattle.stream.specs.Records.{Content, data_at, zeros_at, stream_bytes, metas, from_of, to_of}
 use Rattle.stream.specs.Verdict.{verdict}
 use Rattle.stream.specs.Wellformed.{GoodName}

@@ -1,20 +1,21 @@
 -- What reading gathers of a stream, record by record: its names by their places, its size and its
 -- data records as runs. Rests on records and the steps over them, on overlay's runs and marks, and
 -- on faults.
-use Rattle.std.specs.Prelude.{ℕ, ◌+◌, ◌<◌, List, [], ◌∷◌, ◌++◌, length, take, Ok, Err, Result}
+use Rattle.std.specs.Prelude.{ℕ, ◌+◌, ◌<◌, List, [], ◌∷◌, ◌++◌, length, take, Ok, Result}
 use Rattle.stream.specs.Records.{Content, from_name, to_name, image_size, data_at, zeros_at, record_bytes}
 use Rattle.stream.specs.Steps.{span}
-use Rattle.stream.specs.declared.kinds.TheConstants.{MOST_RECORDS, NAME_HEAD, RANGE_HEAD}
-use Rattle.stream.specs.declared.kinds.Record.{Record}
-use Rattle.stream.specs.declared.kinds.Record.TheVariants.{From, To, Size, Write, Zero, End}
+use Rattle.stream.specs.declared.limits.TheConstants.{MOST_RECORDS, NAME_HEAD, RANGE_HEAD}
+use Rattle.stream.specs.declared.records.Record.{Record}
+use Rattle.stream.specs.declared.records.Record.TheVariants.{From, To, Size, Write, Zero, End}
 use Rattle.overlay.specs.declared.runs.Run.{Run}
 use Rattle.overlay.specs.declared.payloads.PayloadMark.{PayloadMark}
 use Rattle.overlay.specs.declared.payloads.PayloadMark.TheVariants.{Zeroed, Written}
 use Rattle.overlay.specs.declared.payloads.Side.{Side}
 use Rattle.stream.specs.declared.buffers.RunBuffer.{RunBuffer}
-use Rattle.stream.specs.declared.kinds.Span.{Span}
-use Rattle.stream.specs.declared.kinds.Summary.{Summary}
-use Rattle.fault.specs.declared.kinds.Fault.{Fault}
+use Rattle.stream.specs.declared.records.Span.{Span}
+use Rattle.stream.specs.declared.summary.Summary.{Summary}
+use Rattle.fault.specs.Fault.{and_then}
+use Rattle.fault.specs.declared.fault.Fault.{Fault}
 
 -- the names by their places, the size, and the runs of a stream
 pub record Gathered : Type 0 where
@@ -49,8 +50,7 @@ with_records side g place [] = g
 with_records side g place (c ∷ cs) = with_records side (with_record side g place c) (place + length (record_bytes c)) cs
 
 abbrev pub gathered_from : Side → Gathered → ℕ → Result (List Content) Fault → Result Gathered Fault
-gathered_from side g place (Ok cs) = Ok (with_records side g place cs)
-gathered_from side g place (Err f) = Err f
+gathered_from side g place r = and_then r (λ cs. Ok (with_records side g place cs))
 
 -- with a record as the reader found it
 abbrev pub with_found : Side → Gathered → Record → Gathered
@@ -70,14 +70,10 @@ abbrev pub gathered_of : Summary → RunBuffer → Gathered
 gathered_of s buffer = record { from = s.from; to = s.to; size = s.size; runs = buffer_runs buffer }
 
 abbrev pub gathered_result : Result Summary Fault → RunBuffer → Result Gathered Fault
-gathered_result (Ok s) buffer = Ok (gathered_of s buffer)
-gathered_result (Err f) buffer = Err f
+gathered_result r buffer = and_then r (λ s. Ok (gathered_of s buffer))
 
 -- after n runs there is room for the run of a data record
 abbrev pub RunFits : ℕ → Record → Type 0
-RunFits n (From name) = Unit {0}
-RunFits n (To name) = Unit {0}
-RunFits n (Size m) = Unit {0}
 RunFits n (Write offset m place) = n < MOST_RECORDS
 RunFits n (Zero offset m) = n < MOST_RECORDS
-RunFits n End = Unit {0}
+RunFits n r = Unit {0}

@@ -8,8 +8,8 @@ use Rattle.overlay.specs.declared.ranges.RangeMark.{RangeMark}
 use Rattle.overlay.specs.declared.ranges.RangeMark.TheVariants as range
 use Rattle.overlay.specs.Marks.{range_moves, range_alike}
 use Rattle.overlay.specs.Runs.{runs_from}
-use Rattle.overlay.specs.States.{over}
-use Rattle.stream.specs.Records.{Content, from_name, to_name, image_size, data_at, zeros_at, size_in}
+use Rattle.overlay.specs.States.{state_over}
+use Rattle.stream.specs.Records.{Content, data_at, zeros_at, size_in}
 
 -- the state of a position that is not kept: zeroed, or written with a byte. A difference is a list
 -- of `Option Cell`, None where a position is kept; its length is the size
@@ -23,16 +23,14 @@ state_within offset n p s = if nat_le offset p && nat_lt p (offset + n) then Som
 
 -- what one record gives a position
 abbrev pub record_state : Content → ℕ → Option Cell
-record_state (from_name name) p = None
-record_state (to_name name) p = None
-record_state (image_size n) p = None
 record_state (data_at offset bytes) p = state_within offset (length bytes) p (written (slice_index bytes (p - offset)))
 record_state (zeros_at offset n) p = state_within offset n p zeroed
+record_state meta p = None
 
 -- what records give a position: the one that comes later in the stream decides
 abbrev pub records_state : List Content → ℕ → Option Cell
 records_state [] p = None
-records_state (c ∷ cs) p = over (records_state cs p) (record_state c p)
+records_state (c ∷ cs) p = state_over (records_state cs p) (record_state c p)
 
 -- the difference that records mean
 unfoldable pub cells : List Content → List (Option Cell)

@@ -4,7 +4,7 @@
 use Rattle.std.specs.Prelude.{◌≡◌, ℕ, ◌+◌, ◌≤◌, List, [], ◌∷◌, map, length, take, Ok, Option, Result, slice_index}
 use Rattle.std.specs.Option.{option_map}
 use Rattle.fault.specs.Fault.{and_then}
-use Rattle.fault.specs.declared.kinds.Fault.{Fault}
+use Rattle.fault.specs.declared.fault.Fault.{Fault}
 use Rattle.overlay.specs.declared.runs.Run.{Run}
 use Rattle.overlay.specs.declared.ranges.RangeMark.{RangeMark}
 use Rattle.overlay.specs.declared.payloads.PayloadMark.{PayloadMark}
@@ -17,7 +17,7 @@ use Rattle.overlay.specs.Runs.{run_states, Rising, with_mark, runs_from}
 use Rattle.stream.specs.Records.{Content}
 use Rattle.stream.specs.Meaning.{Cell, zeroed, written, cells, ranges}
 use Rattle.stream.specs.Verdict.{verdict}
-use Rattle.stream.specs.declared.kinds.TheConstants.{MOST_RECORDS, LARGEST_SIZE}
+use Rattle.stream.specs.declared.limits.TheConstants.{MOST_RECORDS, LARGEST_SIZE}
 
 -- the state that a mark stands for: the byte at its place of the stream on its side
 abbrev pub cell_of : List ℕ → List ℕ → PayloadMark → Cell

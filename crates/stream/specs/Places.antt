@@ -8,8 +8,8 @@ use Rattle.overlay.specs.declared.runs.Run.{Run}
 use Rattle.overlay.specs.declared.payloads.PayloadMark.{PayloadMark}
 use Rattle.overlay.specs.declared.payloads.PayloadMark.TheVariants.{Zeroed, Written}
 use Rattle.overlay.specs.declared.payloads.Side.{Side}
-use Rattle.stream.specs.declared.kinds.TheConstants.{LONGEST_NAME}
-use Rattle.stream.specs.declared.kinds.Span.{Span}
+use Rattle.stream.specs.declared.limits.TheConstants.{LONGEST_NAME}
+use Rattle.stream.specs.declared.records.Span.{Span}
 
 -- the data record that a run stands for, in the bytes of its stream
 abbrev pub run_record_by : List ℕ → ℕ → ℕ → PayloadMark → Content

@@ -5,7 +5,7 @@ use Rattle.std.specs.Prelude.{◌≡◌, ℕ, ◌≤◌, List, [], map, length, 
 use Rattle.overlay.specs.declared.runs.Run.{Run}
 use Rattle.overlay.specs.declared.payloads.PayloadMark.{PayloadMark}
 use Rattle.overlay.specs.declared.payloads.Side.{Side}
-use Rattle.stream.specs.declared.kinds.TheConstants.{LONGEST_NAME}
+use Rattle.stream.specs.declared.limits.TheConstants.{LONGEST_NAME}
 use Rattle.stream.specs.Records.{Content, stream_bytes, data_of, from_of, to_of, size_in}
 use Rattle.stream.specs.Places.{run_record}
 use Rattle.stream.specs.Verdict.{verdict}

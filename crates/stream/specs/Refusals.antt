@@ -3,12 +3,12 @@
 -- and on where a reader stands.
 use Rattle.std.specs.Prelude.{◌≡◌, ℕ, ◌+◌, ◌<◌, ◌≤◌, Bool, true, false, ◌⊎◌, ◌↔◌, List, [], length, Some, Err, ◌≢◌, slice_get}
 use Rattle.std.specs.List.{Any}
-use Rattle.stream.specs.declared.kinds.TheConstants.{LARGEST_SIZE, LONGEST_NAME, MOST_RECORDS, NAME_HEAD, RANGE_HEAD, SIZE_HEAD}
+use Rattle.stream.specs.declared.limits.TheConstants.{LARGEST_SIZE, LONGEST_NAME, MOST_RECORDS, NAME_HEAD, RANGE_HEAD, SIZE_HEAD}
 use Rattle.stream.specs.Bytes.{le, field}
 use Rattle.stream.specs.Rule.{State, Meta, Data, Seen}
 use Rattle.stream.specs.Steps.{Pos, step_of}
-use Rattle.fault.specs.declared.kinds.Cause.{Cause}
-use Rattle.fault.specs.declared.kinds.Cause.TheVariants.{Cut, UnknownTag, Misplaced, Incomplete, BadName, TooLarge, BadRange, Overlap, TooManyRecords}
+use Rattle.fault.specs.declared.cause.Cause.{Cause}
+use Rattle.fault.specs.declared.cause.Cause.TheVariants.{Cut, UnknownTag, Misplaced, Incomplete, BadName, TooLarge, BadRange, Overlap, TooManyRecords}
 
 -- the first of the bytes is a tag
 abbrev pub Begins : ℕ → List ℕ → Type 0

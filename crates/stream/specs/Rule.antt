@@ -1,8 +1,8 @@
 -- What a tag may do depends on the reader's state and the tag together: here are the states, and
 -- each tag's rule over them. Rests on faults.
 use Rattle.std.specs.Prelude.{Bool, true, if◌then◌else◌, Ok, Err, Result}
-use Rattle.fault.specs.declared.kinds.Cause.{Cause}
-use Rattle.fault.specs.declared.kinds.Cause.TheVariants.{Misplaced, Incomplete}
+use Rattle.fault.specs.declared.cause.Cause.{Cause}
+use Rattle.fault.specs.declared.cause.Cause.TheVariants.{Misplaced, Incomplete}
 
 -- which of the metadata was read: f, t and s
 pub record Seen : Type 0 where
@@ -29,20 +29,20 @@ seen_to s = meta s.from true s.sized
 abbrev pub seen_size : Seen → State
 seen_size s = meta s.from s.to true
 
--- what f does in each state: the state that follows, or the cause
+-- what metadata of a kind does in each state: the state that follows, or the cause
+abbrev pub meta_rule : (Seen → Bool) → (Seen → State) → State → Result State Cause
+meta_rule kind after (Meta s) = if kind s then Err Misplaced else Ok (after s)
+meta_rule kind after Data = Err Misplaced
+
+-- f, t and s
 abbrev pub from_rule : State → Result State Cause
-from_rule (Meta s) = if s.from then Err Misplaced else Ok (seen_from s)
-from_rule Data = Err Misplaced
+from_rule s = meta_rule (λ seen. seen.from) seen_from s
 
--- t
 abbrev pub to_rule : State → Result State Cause
-to_rule (Meta s) = if s.to then Err Misplaced else Ok (seen_to s)
-to_rule Data = Err Misplaced
+to_rule s = meta_rule (λ seen. seen.to) seen_to s
 
--- s
 abbrev pub size_rule : State → Result State Cause
-size_rule (Meta s) = if s.sized then Err Misplaced else Ok (seen_size s)
-size_rule Data = Err Misplaced
+size_rule s = meta_rule (λ seen. seen.sized) seen_size s
 
 -- w, z and e: the to name and the size have to be there
 abbrev pub late_rule : State → Result State Cause

@@ -3,19 +3,18 @@
 -- record (Wellformed).
 use Rattle.std.specs.Prelude.{◌≡◌, ℕ, suc, ◌+◌, ◌≤◌, if◌then◌else◌, List, [], ◌∷◌, ◌++◌, length, Ok, Err, Result, ◌==◌}
 use Rattle.std.specs.List.{AllByRecursion}
-use Rattle.stream.specs.declared.kinds.TheConstants.{LARGEST_SIZE, MOST_RECORDS}
+use Rattle.stream.specs.declared.limits.TheConstants.{LARGEST_SIZE, MOST_RECORDS}
 use Rattle.stream.specs.Records.{Content, from_name, to_name, image_size, data_at, zeros_at, stream_bytes, size_in, tag_of}
 use Rattle.stream.specs.Verdict.{start, verdict, check_answer}
 use Rattle.stream.specs.Wellformed.{GoodName, WellFormed, Bytes, Refusal}
-use Rattle.fault.specs.declared.kinds.Fault.{Fault}
+use Rattle.fault.specs.declared.fault.Fault.{Fault}
 
 -- metadata with a good name, or a size of at most 2^40
 abbrev pub GoodMeta : Content → Type 0
 GoodMeta (from_name name) = GoodName name
 GoodMeta (to_name name) = GoodName name
 GoodMeta (image_size n) = n ≤ LARGEST_SIZE
-GoodMeta (data_at offset bytes) = ⊥
-GoodMeta (zeros_at offset n) = ⊥
+GoodMeta c = ⊥
 
 -- how many records with a tag a list has, and how many f, t and s
 abbrev pub count_of_tag : ℕ → List Content → ℕ
@@ -34,11 +33,9 @@ sizes cs = count_of_tag 115 cs
 -- data records in rising order from an end on, each of at least one byte and inside the size
 abbrev pub RisingRecords : ℕ → ℕ → List Content → Type 0
 RisingRecords size end [] = Unit {0}
-RisingRecords size end (from_name name ∷ cs) = ⊥
-RisingRecords size end (to_name name ∷ cs) = ⊥
-RisingRecords size end (image_size n ∷ cs) = ⊥
 RisingRecords size end (data_at offset bytes ∷ cs) = (end ≤ offset) × (1 ≤ length bytes) × (offset + length bytes ≤ size) × RisingRecords size (offset + length bytes) cs
 RisingRecords size end (zeros_at offset n ∷ cs) = (end ≤ offset) × (1 ≤ n) × (offset + n ≤ size) × RisingRecords size (offset + n) cs
+RisingRecords size end (meta ∷ cs) = ⊥
 
 -- metadata and then data: at most one f, one t and one s in any order, then at most 512 data
 -- records in rising order

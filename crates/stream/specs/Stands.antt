@@ -1,24 +1,23 @@
 -- Where a reader stands, and what a step of it promises. Rests on records, on the states and their
 -- rules, on the checks of one record, on reading and on faults.
-use Rattle.std.specs.Prelude.{◌≡◌, ℕ, ◌+◌, if◌then◌else◌, List, length, take, drop, IfOk, Some, None, Ok, Err, Option, Result, nat_lt}
+use Rattle.std.specs.Prelude.{◌≡◌, ℕ, if◌then◌else◌, List, length, take, drop, IfOk, Some, None, Ok, Err, Option, Result, nat_lt}
 use Rattle.std.specs.Option.{is_some, unwrap_or}
-use Rattle.stream.specs.declared.kinds.TheConstants.{NAME_HEAD}
 use Rattle.stream.specs.Rule.{Seen, State, Meta, Data, late_rule}
-use Rattle.stream.specs.Steps.{Pos, span, name_length_of, step_of, step_answer, pos_after, fault_at}
+use Rattle.stream.specs.Steps.{Pos, name_step, step_of, step_answer, pos_after, fault_at}
 use Rattle.stream.specs.Records.{header}
 use Rattle.stream.specs.Verdict.{start, same}
-use Rattle.stream.specs.declared.kinds.Record.{Record}
-use Rattle.stream.specs.declared.kinds.Record.TheVariants.{From, To, Size, Write, Zero, End}
-use Rattle.stream.specs.declared.kinds.Span.{Span}
-use Rattle.stream.specs.declared.kinds.Metadata.{Metadata}
-use Rattle.stream.specs.declared.kinds.Reached.{Reached}
-use Rattle.stream.specs.declared.kinds.State as code
-use Rattle.stream.specs.declared.kinds.State.TheVariants as states
-use Rattle.stream.specs.declared.kinds.Reader.{Reader}
+use Rattle.stream.specs.declared.records.Record.{Record}
+use Rattle.stream.specs.declared.records.Record.TheVariants.{End}
+use Rattle.stream.specs.declared.records.Span.{Span}
+use Rattle.stream.specs.declared.reader.Metadata.{Metadata}
+use Rattle.stream.specs.declared.reader.Reached.{Reached}
+use Rattle.stream.specs.declared.reader.State as code
+use Rattle.stream.specs.declared.reader.State.TheVariants as states
+use Rattle.stream.specs.declared.reader.Reader.{Reader}
 use Rattle.fault.specs.Fault.{and_then, fault, err_by}
-use Rattle.fault.specs.declared.kinds.Cause.{Cause}
-use Rattle.fault.specs.declared.kinds.Cause.TheVariants as causes
-use Rattle.fault.specs.declared.kinds.Fault.{Fault}
+use Rattle.fault.specs.declared.cause.Cause.{Cause}
+use Rattle.fault.specs.declared.cause.Cause.TheVariants as causes
+use Rattle.fault.specs.declared.fault.Fault.{Fault}
 
 -- which of the metadata was read
 abbrev pub seen_of : Metadata → Seen
@@ -64,17 +63,9 @@ rest_of r = drop r.place r.bytes.now
 abbrev pub reached_of : code.State → Result Reached Cause
 reached_of s = and_then (late_rule (state_of s)) (λ _. Ok (record { size = size_of_state s; end = end_of_state s; count = count_of_state s }))
 
--- a name as it lies at a place, and where the reader then stands, in metadata that follows
-abbrev pub name_step : ℕ → List ℕ → Metadata → Result (Span × Pos) Cause
-name_step place rest m = and_then (name_length_of rest) (λ n. Ok (span (place + NAME_HEAD) n, in_meta (place + NAME_HEAD + n) m))
-
 -- a reader after the header of a stream, or the fault of a stream without one
-abbrev pub opened_pos : Result Reader Fault → Result Pos Fault
-opened_pos (Ok r) = Ok (pos_of r)
-opened_pos (Err f) = Err f
-
 pub record Opened (xs : List ℕ) (r : Result Reader Fault) : Type 0 where
-  pub result : opened_pos r ≡ (if same (take 12 xs) header then Ok start else Err (fault causes.Header 0))
+  pub result : and_then r (λ x. Ok (pos_of x)) ≡ (if same (take 12 xs) header then Ok start else Err (fault causes.Header 0))
   pub bytes : IfOk r (λ x. x.bytes.now ≡ xs)
 
 -- something was read, or refused: the answer and where the reader then stands are those of the
@@ -83,6 +74,10 @@ pub record Took {A : Type 0} (old new : Reader) (o : Result (A × Pos) Cause) (r
   pub result : r ≡ step_answer o
   pub stands : pos_of new ≡ pos_after (pos_of old) o
   pub bytes : new.bytes ≡ old.bytes
+
+-- the same of a name, whichever kind of record it is
+abbrev pub TookName : Reader → Reader → Metadata → Result Span Cause → Type 0
+TookName old new m r = (kind : Span → Record) → Took old new (name_step kind (in_meta old.place m) (rest_of old) (Meta (seen_of m))) (and_then r (λ s. Ok (kind s)))
 
 -- the same of a record with the fault in place of the cause
 pub record Stepped (old new : Reader) (r : Result Record Fault) : Type 0 where
@@ -96,12 +91,8 @@ finish_answer total place = if nat_lt place total then Err (fault causes.Trailin
 
 -- a record that is not the end, or none at the end
 abbrev pub next_answer : ℕ → Record → Pos → Result (Option Record) Fault
-next_answer total (From s) q = Ok (Some (From s))
-next_answer total (To s) q = Ok (Some (To s))
-next_answer total (Size n) q = Ok (Some (Size n))
-next_answer total (Write offset n place) q = Ok (Some (Write offset n place))
-next_answer total (Zero offset n) q = Ok (Some (Zero offset n))
 next_answer total End q = and_then (finish_answer total q.place) (λ _. Ok None)
+next_answer total r q = Ok (Some r)
 
 abbrev pub next_of : ℕ → ℕ → Result (Record × Pos) Cause → Result (Option Record) Fault
 next_of total place (Ok s) = next_answer total s.0 s.1

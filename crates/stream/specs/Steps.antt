@@ -1,17 +1,18 @@
 -- The checks of one record in their order: what a step reads and where the reader then stands, or
 -- the first cause that applies. Rests on the states and their rules, on numbers in bytes and on
 -- faults.
-use Rattle.std.specs.Prelude.{◌≡◌, ℕ, ◌+◌, ◌-◌, ◌<◌, ◌≤◌, Bool, true, if◌then◌else◌, ◌&&◌, List, [], ◌∷◌, length, Ok, Err, Result, ◌==◌, nat_le, nat_lt, slice_index}
+use Rattle.std.specs.Prelude.{ℕ, ◌+◌, ◌-◌, Bool, if◌then◌else◌, ◌&&◌, List, length, Ok, Err, Result, ◌==◌, nat_le, nat_lt, slice_index}
+use Rattle.std.specs.List.{list_all}
 use Rattle.stream.specs.Bytes.{le, field}
 use Rattle.stream.specs.Rule.{State, from_rule, to_rule, size_rule, late_rule}
-use Rattle.stream.specs.declared.kinds.TheConstants.{LARGEST_SIZE, LONGEST_NAME, MOST_RECORDS, NAME_HEAD, RANGE_HEAD, SIZE_HEAD}
-use Rattle.stream.specs.declared.kinds.Span.{Span}
-use Rattle.stream.specs.declared.kinds.Record.{Record}
-use Rattle.stream.specs.declared.kinds.Record.TheVariants.{From, To, Size, Write, Zero, End}
+use Rattle.stream.specs.declared.limits.TheConstants.{LARGEST_SIZE, LONGEST_NAME, MOST_RECORDS, NAME_HEAD, RANGE_HEAD, SIZE_HEAD}
+use Rattle.stream.specs.declared.records.Span.{Span}
+use Rattle.stream.specs.declared.records.Record.{Record}
+use Rattle.stream.specs.declared.records.Record.TheVariants.{From, To, Size, Write, Zero, End}
 use Rattle.fault.specs.Fault.{and_then, fault, cause_number}
-use Rattle.fault.specs.declared.kinds.Fault.{Fault}
-use Rattle.fault.specs.declared.kinds.Cause.{Cause}
-use Rattle.fault.specs.declared.kinds.Cause.TheVariants as causes
+use Rattle.fault.specs.declared.fault.Fault.{Fault}
+use Rattle.fault.specs.declared.cause.Cause.{Cause}
+use Rattle.fault.specs.declared.cause.Cause.TheVariants as causes
 
 -- the place of the next record, and what the records before it say: the state, the size of the
 -- image, the end of the last data record, and how many data records there were
@@ -27,8 +28,7 @@ abbrev pub printable_byte : ℕ → Bool
 printable_byte b = nat_le 33 b && nat_le b 126
 
 abbrev pub every_printable : List ℕ → Bool
-every_printable [] = true
-every_printable (b ∷ bs) = printable_byte b && every_printable bs
+every_printable bytes = list_all printable_byte bytes
 
 -- the checks of a name of n bytes in the record that begins the list
 abbrev pub name_by : List ℕ → ℕ → Result ℕ Cause
@@ -76,12 +76,15 @@ abbrev pub span : ℕ → ℕ → Span
 span place n = record { place = place; length = n }
 
 -- one record of each tag, where the state that follows is known: what it is and where the reader
--- then stands, or the first cause that applies
+-- then stands, or the first cause that applies. A name becomes a record of its kind.
+abbrev pub name_step : (Span → Record) → Pos → List ℕ → State → Result (Record × Pos) Cause
+name_step kind p rest s = and_then (name_length_of rest) (λ n. Ok (kind (span (p.place + NAME_HEAD) n), record p { place = p.place + NAME_HEAD + n; state = s }))
+
 abbrev pub from_step : Pos → List ℕ → State → Result (Record × Pos) Cause
-from_step p rest s = and_then (name_length_of rest) (λ n. Ok (From (span (p.place + NAME_HEAD) n), record p { place = p.place + NAME_HEAD + n; state = s }))
+from_step p rest s = name_step From p rest s
 
 abbrev pub to_step : Pos → List ℕ → State → Result (Record × Pos) Cause
-to_step p rest s = and_then (name_length_of rest) (λ n. Ok (To (span (p.place + NAME_HEAD) n), record p { place = p.place + NAME_HEAD + n; state = s }))
+to_step p rest s = name_step To p rest s
 
 abbrev pub size_step : Pos → List ℕ → State → Result (Record × Pos) Cause
 size_step p rest s = and_then (size_of rest) (λ n. Ok (Size n, record p { place = p.place + SIZE_HEAD; state = s; size = n }))
@@ -122,12 +125,3 @@ pos_after p (Err c) = p
 -- the fault of a record: its place is the tag's, of a cut stream the whole length
 abbrev pub fault_at : ℕ → ℕ → Cause → Fault
 fault_at total place c = fault c (if cause_number c == 2 then total else place)
-
--- how a record that was read lies in the bytes that were left, and what it counts
-abbrev pub Lies : Pos → ℕ → Record → Pos → Type 0
-Lies p left (From s) q = (s.place ≡ p.place + NAME_HEAD) × (NAME_HEAD + s.length ≤ left) × (q.place ≡ p.place + NAME_HEAD + s.length) × (q.count ≡ p.count)
-Lies p left (To s) q = (s.place ≡ p.place + NAME_HEAD) × (NAME_HEAD + s.length ≤ left) × (q.place ≡ p.place + NAME_HEAD + s.length) × (q.count ≡ p.count)
-Lies p left (Size n) q = (q.place ≡ p.place + SIZE_HEAD) × (q.count ≡ p.count)
-Lies p left (Write offset n place) q = (place ≡ p.place + RANGE_HEAD) × (RANGE_HEAD + n ≤ left) × (q.place ≡ p.place + RANGE_HEAD + n) × (q.count ≡ p.count + 1) × (p.count < MOST_RECORDS)
-Lies p left (Zero offset n) q = (q.place ≡ p.place + RANGE_HEAD) × (q.count ≡ p.count + 1) × (p.count < MOST_RECORDS)
-Lies p left End q = q.place ≡ p.place + 1

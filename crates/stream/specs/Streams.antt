@@ -1,15 +1,13 @@
 -- What a stream that was read means, and what reading it returns. Rests on differences, on the
 -- stream's parts, on what reading promises, and on faults.
-use Rattle.std.specs.Prelude.{◌≡◌, List, ℕ, IfOk, Ok, Err, Option, Result}
+use Rattle.std.specs.Prelude.{◌≡◌, List, ℕ, IfOk, Ok, Option, Result}
 use Rattle.fault.specs.Fault.{and_then}
-use Rattle.fault.specs.declared.kinds.Fault.{Fault}
-use Rattle.overlay.specs.declared.payloads.PayloadMark.{PayloadMark}
+use Rattle.fault.specs.declared.fault.Fault.{Fault}
 use Rattle.overlay.specs.declared.payloads.Side.{Side}
-use Rattle.overlay.specs.declared.runs.Run.{Run}
 use Rattle.stream.specs.Meaning.{Cell}
 use Rattle.stream.specs.Parts.{parts_cells}
 use Rattle.stream.specs.Difference.{Difference, meaning}
-use Rattle.stream.specs.Gathered.{Gathered, gathered_from, nothing_gathered}
+use Rattle.stream.specs.Gathered.{gathered_from, nothing_gathered}
 use Rattle.stream.specs.Reads.{ReadOn}
 use Rattle.stream.specs.Verdict.{verdict}
 use Rattle.stream.specs.declared.stream.Stream.{Stream}
@@ -24,16 +22,11 @@ stream_difference s = record { from = s.from.now; to = s.to.now; cells = stream_
 
 -- what a stream means, or the fault of its reading
 abbrev pub stream_meaning : Result Stream Fault → Result Difference Fault
-stream_meaning (Ok s) = Ok (stream_difference s)
-stream_meaning (Err f) = Err f
+stream_meaning r = and_then r (λ s. Ok (stream_difference s))
 
 -- a stream that was read for a side of a join
 abbrev pub OnSide : Side → Stream → Type 0
 OnSide side s = ReadOn side s.bytes.now s.from.now s.to.now s.sheet.size s.sheet.runs.now
-
--- the runs that reading gathers, or the fault
-abbrev pub gathered_runs : Result Gathered Fault → Result (List (Run PayloadMark)) Fault
-gathered_runs r = and_then r (λ g. Ok g.runs)
 
 -- a reading of bytes for a side: what they mean, or their fault; a stream that was read has these
 -- bytes, and was read for that side
@@ -41,4 +34,4 @@ pub record StreamRead (side : Side) (stream : List ℕ) (result : Result Stream 
   pub means : stream_meaning result ≡ meaning stream
   pub bytes : IfOk result (λ s. s.bytes.now ≡ stream)
   pub on_side : IfOk result (OnSide side)
-  pub runs : IfOk result (λ s. Ok s.sheet.runs.now ≡ gathered_runs (gathered_from side nothing_gathered 12 (verdict stream)))
+  pub runs : IfOk result (λ s. Ok s.sheet.runs.now ≡ and_then (gathered_from side nothing_gathered 12 (verdict stream)) (λ g. Ok g.runs))

@@ -1,17 +1,17 @@
 -- Reading: the records of a stream, or its first fault. Rests on records, on the checks of one
 -- record and on faults.
 use Rattle.std.specs.Prelude.{ℕ, zero, suc, ◌-◌, Bool, true, false, if◌then◌else◌, ◌&&◌, List, [], ◌∷◌, length, take, drop, Ok, Err, Result, ◌==◌, nat_lt}
-use Rattle.stream.specs.declared.kinds.TheConstants.{NAME_HEAD, RANGE_HEAD}
+use Rattle.stream.specs.declared.limits.TheConstants.{NAME_HEAD, RANGE_HEAD}
 use Rattle.stream.specs.Bytes.{field}
 use Rattle.stream.specs.Records.{Content, from_name, to_name, image_size, data_at, zeros_at, header}
 use Rattle.stream.specs.Steps.{Pos, step_of, fault_at}
 use Rattle.stream.specs.Rule.{meta}
-use Rattle.stream.specs.declared.kinds.Record.{Record}
-use Rattle.stream.specs.declared.kinds.Record.TheVariants.{From, To, Size, Write, Zero, End}
+use Rattle.stream.specs.declared.records.Record.{Record}
+use Rattle.stream.specs.declared.records.Record.TheVariants.{From, To, Size, Write, Zero, End}
 use Rattle.fault.specs.Fault.{fault}
-use Rattle.fault.specs.declared.kinds.Fault.{Fault}
-use Rattle.fault.specs.declared.kinds.Cause.{Cause}
-use Rattle.fault.specs.declared.kinds.Cause.TheVariants as causes
+use Rattle.fault.specs.declared.fault.Fault.{Fault}
+use Rattle.fault.specs.declared.cause.Cause.{Cause}
+use Rattle.fault.specs.declared.cause.Cause.TheVariants as causes
 
 -- what follows a record, with the record before it
 abbrev pub record_before : Content → Result (List Content) Fault → Result (List Content) Fault
@@ -45,9 +45,8 @@ start = record { place = 12; state = meta false false false; size = 0; end = 0; 
 -- whether two lists of bytes are the same
 abbrev pub same : List ℕ → List ℕ → Bool
 same [] [] = true
-same [] (y ∷ ys) = false
-same (x ∷ xs) [] = false
 same (x ∷ xs) (y ∷ ys) = x == y && same xs ys
+same xs ys = false
 
 -- the records of a stream, or its fault
 abbrev pub verdict : List ℕ → Result (List Content) Fault

@@ -3,16 +3,16 @@
 -- on reading and on faults.
 use Rattle.std.specs.Prelude.{◌≡◌, ℕ, ◌+◌, ◌<◌, ◌≤◌, true, ◌⊎◌, List, [], ◌∷◌, ◌++◌, length, take, Ok, Err, Result, ◌≢◌}
 use Rattle.std.specs.List.{AllByRecursion}
-use Rattle.stream.specs.declared.kinds.TheConstants.{LARGEST_SIZE, LONGEST_NAME, MOST_RECORDS, NAME_HEAD, RANGE_HEAD, SIZE_HEAD}
+use Rattle.stream.specs.declared.limits.TheConstants.{LARGEST_SIZE, LONGEST_NAME, MOST_RECORDS, NAME_HEAD, RANGE_HEAD, SIZE_HEAD}
 use Rattle.stream.specs.Rule.{State, Data, from_rule, to_rule, size_rule, late_rule}
 use Rattle.stream.specs.Steps.{Pos, every_printable, fault_at}
 use Rattle.stream.specs.Refusals.{IsComplete, Refuses}
 use Rattle.stream.specs.Records.{Content, from_name, to_name, image_size, data_at, zeros_at, records_bytes, stream_bytes, header}
 use Rattle.stream.specs.Verdict.{start, verdict}
 use Rattle.fault.specs.Fault.{fault}
-use Rattle.fault.specs.declared.kinds.Cause.{Cause}
-use Rattle.fault.specs.declared.kinds.Cause.TheVariants as causes
-use Rattle.fault.specs.declared.kinds.Fault.{Fault}
+use Rattle.fault.specs.declared.cause.Cause.{Cause}
+use Rattle.fault.specs.declared.cause.Cause.TheVariants as causes
+use Rattle.fault.specs.declared.fault.Fault.{Fault}
 
 -- a name has 1 to 64 bytes, each of them printable
 abbrev pub GoodName : List ℕ → Type 0
@@ -34,8 +34,7 @@ abbrev pub rule_of : Content → State → Result State Cause
 rule_of (from_name name) s = from_rule s
 rule_of (to_name name) s = to_rule s
 rule_of (image_size n) s = size_rule s
-rule_of (data_at offset bytes) s = late_rule s
-rule_of (zeros_at offset n) s = late_rule s
+rule_of c s = late_rule s
 
 -- where a reader stands after a record, in the state that follows
 abbrev pub pos_past : Pos → Content → State → Pos

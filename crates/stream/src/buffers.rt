@@ -1,7 +1,7 @@
 ghost use Rattle.std.specs.Prelude.{◌≡◌, ◌<◌, ◌≤◌, [], ◌∷◌, ◌++◌, length};
-ghost use Rattle.stream.specs.declared.kinds.TheConstants.{MOST_RECORDS};
+ghost use Rattle.stream.specs.declared.limits.TheConstants.{MOST_RECORDS};
 
-use crate::kinds::MOST_RECORDS;
+use crate::limits::MOST_RECORDS;
 use overlay::{PayloadMark, Run};
 
 /// Room for the runs of one stream. A reading borrows it from the caller, who sees what was put
@@ -32,7 +32,7 @@ impl RunBuffer {
         self.count = 0;
     }
 
-    #[tactic(auto, using(crate::proofs::Gathers::length_runs, crate::proofs::Gathers::runs_push))]
+    #[tactic(auto, using(crate::proofs::RunGathering::length_runs, crate::proofs::RunGathering::runs_push))]
     pub(crate) fn push(&mut self, run: Run<PayloadMark>)
         requires { length (buffer_runs self.old) < MOST_RECORDS }
         ensures { buffer_runs self.new ≡ buffer_runs self.old ++ run ∷ [] }

@@ -1,11 +1,9 @@
 ghost use Rattle.std.specs.Prelude.{◌≡◌, ◌+◌, if◌then◌else◌, length, Ok, Err, nat_lt};
-ghost use Rattle.std.specs.Char.{is_ascii_graphic};
-ghost use Rattle.std.specs.List.{list_all};
 ghost use Rattle.stream.specs.Bytes.{field};
 ghost use Rattle.stream.specs.Steps.{every_printable, name_length_of, size_of};
-ghost use Rattle.fault.specs.declared.kinds.Cause.TheVariants.{Cut};
+ghost use Rattle.fault.specs.declared.cause.Cause.TheVariants.{Cut};
 
-use crate::kinds::{LARGEST_SIZE, LONGEST_NAME, NAME_HEAD};
+use crate::limits::{LARGEST_SIZE, LONGEST_NAME, NAME_HEAD};
 use fault::Cause;
 
 // The N bytes from `at` on, or `Cut` where the bytes end before.
@@ -20,19 +18,11 @@ pub(crate) fn array_at<const N: usize>(bytes: &[u8], at: usize) -> Result<[u8; N
     Ok(*chunk)
 }
 
-// Whether each byte is a graphic ASCII character, 33 to 126.
-fn all_printable(name: &[u8]) -> bool
-    ensures { result ≡ list_all is_ascii_graphic name.now }
-{
-    name.iter().all(|byte| byte.is_ascii_graphic())
-}
-
 /// Whether each byte may stand in a name: 33 to 126, the graphic ASCII characters.
-#[tactic(auto, using(crate::proofs::Graphic::printable_is))]
 pub fn printable(name: &[u8]) -> bool
     ensures { result ≡ every_printable name.now }
 {
-    all_printable(name)
+    name.iter().all(|byte| byte.is_ascii_graphic())
 }
 
 // The length of the name in the record at the beginning of `rest`. Its length is checked first,

@@ -2,27 +2,28 @@
 #![tactic(auto)]
 
 ghost use Rattle.std.specs.Prelude.{◌≡◌};
-ghost use Rattle.stream.specs.Limits.{FormatLimits};
+ghost use Rattle.stream.specs.Records.{FormatLimits};
 ghost use Rattle.stream.specs.Places.{PlacesMatch};
 ghost use Rattle.stream.specs.Verdict.{check_answer, verdict};
 ghost use Rattle.stream.specs.Refusals.{RefusesExactly};
 ghost use Rattle.stream.specs.Sound.{AcceptedExactly, Exact, SoundExactly};
 ghost use Rattle.stream.specs.Wellformed.{ReadsBack, AcceptedIsStream, RefusedExactly};
 
-use crate::kinds::Reader;
+use crate::reader::Reader;
 use fault::Fault;
 
 mod buffers;
 mod fields;
-mod kinds;
+mod limits;
 mod ranges;
 mod reader;
-mod reading;
+mod records;
 mod stream;
+mod summary;
 
 pub use buffers::RunBuffer;
 pub use fields::printable;
-pub use kinds::{
+pub use limits::{
     HEADER, LARGEST_SIZE, LONGEST_NAME, MOST_RECORDS, NAME_HEAD, RANGE_HEAD, Ranges, SIZE_HEAD,
 };
 pub use ranges::{find_ranges, mark_ranges};
@@ -39,7 +40,7 @@ fn examine(stream: &[u8]) -> Result<(), Fault>
 
 /// Checks a stream. It is accepted exactly if it is the stream of a sound list of records.
 /// Otherwise the fault is the first that applies, in the order of docs/REFUSALS.md.
-#[tactic(auto, using(crate::proofs::Sounds::exact_bytes))]
+#[tactic(auto, using(crate::proofs::SoundLists::exact_bytes))]
 pub fn check(stream: &[u8]) -> Result<(), Fault>
     ensures result { result ≡ check_answer (verdict stream.now) }
     ensures exact { Exact stream.now result }

@@ -4,7 +4,7 @@ ghost use Rattle.overlay.specs.Marks.{range_of};
 ghost use Rattle.overlay.specs.Runs.{with_mark};
 ghost use Rattle.stream.specs.Parts.{range_runs, part_ranges, RangesFound};
 
-use crate::kinds::{MOST_RECORDS, Ranges};
+use crate::limits::{MOST_RECORDS, Ranges};
 use overlay::{PayloadMark, RangeMark, Run, Sheet, overlay};
 
 // Writes the kinds of runs, run by run.
@@ -23,7 +23,7 @@ fn put_kinds(runs: &[Run<PayloadMark>], out: &mut [Run<RangeMark>])
 
 /// Writes the runs of a sheet, each with its kind alone, into the first places of `out`, and lends
 /// them out as a sheet. What the places after them then hold is not said.
-#[tactic(auto, using(crate::proofs::Ranged::kinds_found, crate::proofs::Ranged::kinds_rise))]
+#[tactic(auto, using(crate::proofs::FoundRanges::kinds_found, crate::proofs::FoundRanges::kinds_rise))]
 pub fn mark_ranges<'k>(sheet: Sheet<PayloadMark>, out: &'k mut Ranges) -> Sheet<'k, RangeMark>
     requires { length sheet.runs.now ≤ MOST_RECORDS }
     ensures runs { result.runs.now ≡ map (with_mark range_of) sheet.entry.runs.now }

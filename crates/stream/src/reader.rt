@@ -1,16 +1,52 @@
-ghost use Rattle.std.specs.Prelude.{◌≡◌, ◌+◌, ◌-◌, ◌^◌, ◌<◌, ◌≤◌, length, Ok, IfOk};
-ghost use Rattle.stream.specs.Rule.{seen_from, seen_to, seen_size, Data};
-ghost use Rattle.stream.specs.Steps.{data_range_of, payload_range_of, step_of, from_step, to_step, size_step, data_step, zeros_step, end_step, fault_at};
-ghost use Rattle.stream.specs.Stands.{seen_of, in_meta, in_data, pos_of, rest_of, reached_of, name_step, Took, Opened, finish_answer, Stepped, Turned};
+ghost use Rattle.std.specs.Prelude.{◌≡◌, ◌+◌, ◌-◌, ◌^◌, ◌<◌, ◌≤◌, length, Ok};
+ghost use Rattle.stream.specs.Steps.{fault_at};
 
 use crate::fields::{array_at, name_length, size_in};
-use crate::kinds::{
-    HEADER, MOST_RECORDS, Metadata, NAME_HEAD, RANGE_HEAD, Reached, Reader, Record, SIZE_HEAD,
-    Span, State,
-};
+use crate::limits::{HEADER, MOST_RECORDS, NAME_HEAD, RANGE_HEAD, SIZE_HEAD};
+use crate::records::{Record, Span};
 use fault::{Cause, Fault};
 
+// Which metadata was read so far: whether there were names, and the size.
+#[derive(Clone, Copy)]
+pub struct Metadata {
+    pub from: bool,
+    pub to: bool,
+    pub size: Option<u64>,
+}
+
+// What the next data record has to keep to: the image's size, where the last record ends, and how
+// many there were.
+#[derive(Clone, Copy)]
+pub struct Reached {
+    pub size: u64,
+    pub end: u64,
+    pub count: usize,
+}
+
+impl Reached {
+    // The same after one more data record.
+    fn past(self, offset: u64, length: u64) -> Reached
+        requires { (offset + «length» < 2 ^ 64) × (self.count < MOST_RECORDS) }
+        ensures { result ≡ record self { end = offset + «length»; count = self.count + 1 } }
+    {
+        Reached {
+            end: offset + length,
+            count: self.count + 1,
+            ..self
+        }
+    }
+}
+
+// What was read so far: metadata only, or data too.
+#[derive(Clone, Copy)]
+pub enum State {
+    Meta(Metadata),
+    Data(Reached),
+}
+
 impl State {
+    ghost use Rattle.stream.specs.Stands.{reached_of};
+
     // What the next data record has to keep to. Data may come once the to name and the size were
     // read.
     fn reached(self) -> Result<Reached, Cause>
@@ -34,21 +70,20 @@ impl State {
     }
 }
 
-impl Reached {
-    // The same after one more data record.
-    fn past(self, offset: u64, length: u64) -> Reached
-        requires { (offset + «length» < 2 ^ 64) × (self.count < MOST_RECORDS) }
-        ensures { result ≡ record self { end = offset + «length»; count = self.count + 1 } }
-    {
-        Reached {
-            end: offset + length,
-            count: self.count + 1,
-            ..self
-        }
-    }
+// A stream with the place of the next record, and what was read before it.
+#[derive(Drop)]
+pub struct Reader<'a> {
+    pub(crate) bytes: &'a [u8],
+    pub(crate) place: usize,
+    pub(crate) state: State,
+    ghost within: { place ≤ length bytes.now },
 }
 
 impl<'a> Reader<'a> {
+    ghost use Rattle.stream.specs.Rule.{seen_size, Data};
+    ghost use Rattle.stream.specs.Steps.{data_range_of, payload_range_of, step_of, size_step, data_step, zeros_step, end_step};
+    ghost use Rattle.stream.specs.Stands.{seen_of, in_meta, in_data, pos_of, rest_of, Took, TookName, Opened, finish_answer, Stepped, Turned};
+
     // A reader that stands after the header of a stream.
     pub(crate) fn open(bytes: &'a [u8]) -> Result<Reader<'a>, Fault>
         ensures { Opened bytes.now result }
@@ -104,42 +139,15 @@ impl<'a> Reader<'a> {
         Ok((offset, length))
     }
 
-    // Steps over the next record, a name. `metadata` is what was read with it.
+    // Steps over the next record, a name of either kind. `metadata` is what was read with it.
     fn take_name(&mut self, metadata: Metadata) -> Result<Span, Cause>
-        ensures { Took self.old self.new
-            (name_step self.old.place (rest_of self.old) metadata) result }
+        ensures { TookName self.old self.new metadata result }
     {
         let length = name_length(self.rest())?;
         let place = self.place + NAME_HEAD;
         self.place = place + length;
         self.state = State::Meta(metadata);
         Ok(Span { place, length })
-    }
-
-    // Reads the from name, after this metadata.
-    fn take_from(&mut self, metadata: Metadata) -> Result<Record, Cause>
-        ensures { Took self.old self.new
-            (from_step (in_meta self.old.place metadata) (rest_of self.old) (seen_from (seen_of metadata)))
-            result }
-    {
-        let span = self.take_name(Metadata {
-            from: true,
-            ..metadata
-        })?;
-        Ok(Record::From(span))
-    }
-
-    // Reads the to name, after this metadata.
-    fn take_to(&mut self, metadata: Metadata) -> Result<Record, Cause>
-        ensures { Took self.old self.new
-            (to_step (in_meta self.old.place metadata) (rest_of self.old) (seen_to (seen_of metadata)))
-            result }
-    {
-        let span = self.take_name(Metadata {
-            to: true,
-            ..metadata
-        })?;
-        Ok(Record::To(span))
     }
 
     // Reads the size, after this metadata.
@@ -204,8 +212,20 @@ impl<'a> Reader<'a> {
             return Err(Cause::Cut);
         };
         match (self.state, *tag) {
-            (State::Meta(metadata), b'f') if !metadata.from => self.take_from(metadata),
-            (State::Meta(metadata), b't') if !metadata.to => self.take_to(metadata),
+            (State::Meta(metadata), b'f') if !metadata.from => {
+                let span = self.take_name(Metadata {
+                    from: true,
+                    ..metadata
+                })?;
+                Ok(Record::From(span))
+            }
+            (State::Meta(metadata), b't') if !metadata.to => {
+                let span = self.take_name(Metadata {
+                    to: true,
+                    ..metadata
+                })?;
+                Ok(Record::To(span))
+            }
             (State::Meta(metadata), b's') if metadata.size.is_none() => self.take_size(metadata),
             (_, b'f' | b't' | b's') => Err(Cause::Misplaced),
             (state, b'w') => self.take_data(state.reached()?),

@@ -1,7 +1,7 @@
 ghost use Rattle.stream.specs.Reads.{WasRead};
 
 use crate::buffers::RunBuffer;
-use crate::reading::gather;
+use crate::summary::Summary;
 use fault::Fault;
 use overlay::{PayloadMark, Sheet, Side};
 
@@ -26,7 +26,7 @@ impl<'s, 'r> Stream<'s, 'r> {
     ) -> Result<Stream<'s, 'r>, Fault>
         ensures { StreamRead side bytes.now result }
     {
-        let summary = gather(bytes, side, buffer)?;
+        let summary = Summary::gather(bytes, side, buffer)?;
         let from = summary.from.of(bytes);
         let to = summary.to.of(bytes);
         let sheet = Sheet {

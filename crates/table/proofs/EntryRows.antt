@@ -13,7 +13,7 @@ use Rattle.table.specs.declared.entry.Entry.{Entry}
 use Rattle.table.specs.declared.name.Name.{Name}
 use denote.Bor.{Bor}
 use Rattle.table.specs.declared.table.EntryTable.TheInside.{Inside}
-use Rattle.table.proofs.Ends.{ends_inside, ends_next}
+use Rattle.table.proofs.RowEnds.{ends_inside, ends_next}
 
 -- an entry lies within the fill, and the next one begins where it ends
 row_is : (t : Inside) (i : ℕ) (d : Entry) → i < length t.entries.items → row_at (table_of t) i ≡ row_of (get_or t.entries.items i d)

@@ -1,5 +1,5 @@
-pub mod Ends
+pub mod RowEnds
 mod EntryRows
 mod Names
 mod Removal
-mod Steps
+pub mod TableSteps

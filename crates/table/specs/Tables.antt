@@ -63,10 +63,6 @@ moved_row old new r = record r { place = new + (r.place - old) }
 abbrev pub united_row : ℕ → List ℕ → Row → Row
 united_row n to r = record r { length = n; to = to }
 
--- two neighbours as one entry of n bytes
-abbrev pub one_row : ℕ → Row → Row → Row
-one_row n r s = united_row n s.to r
-
 -- a new last row
 abbrev pub append_row : Table → Row → Table
 append_row t r = record t { rows = t.rows ++ (r ∷ []); fill = t.fill + r.length }
@@ -89,9 +85,12 @@ drop_for t name = record t {
   fill = fill_after t.fill 0 (end_of (row_at t 0)) 0;
 }
 
--- a new last entry of n bytes at the fill
+-- the row of a new last entry of n bytes, which begins at the fill; and the table with it
+abbrev pub new_row : Table → ℕ → List ℕ → List ℕ → Row
+new_row t n from to = record { place = t.fill; length = n; from = from; to = to }
+
 abbrev pub add_row : Table → ℕ → List ℕ → List ℕ → Table
-add_row t n from to = append_row t (record { place = t.fill; length = n; from = from; to = to })
+add_row t n from to = append_row t (new_row t n from to)
 
 -- entries i and i + 1 as one of n bytes, which leads to where the later one leads
 abbrev pub unite_rows : Table → ℕ → ℕ → Table

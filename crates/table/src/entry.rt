@@ -1,6 +1,3 @@
-ghost use Rattle.std.specs.Prelude.{◌≡◌};
-ghost use Rattle.table.specs.Entries.{united_entry, moved_entry, CanMove};
-
 use crate::name::Name;
 
 /// One entry of a shelf: the place of its first byte, its length in bytes, and the names of the
@@ -14,6 +11,9 @@ pub struct Entry {
 }
 
 impl Entry {
+    ghost use Rattle.std.specs.Prelude.{◌≡◌};
+    ghost use Rattle.table.specs.Entries.{united_entry, moved_entry, CanMove};
+
     // The entry of a joined stream: another length, and another to name.
     pub(crate) fn unite(&mut self, byte_count: usize, to: Name)
         ensures { self.new ≡ united_entry byte_count to self.old }

@@ -1,6 +1,6 @@
 ghost use Rattle.std.specs.Prelude.{◌≡◌, ◌≤◌, [], length, take};
 ghost use Rattle.stream.specs.Verdict.{same};
-ghost use Rattle.stream.specs.declared.kinds.TheConstants.{LONGEST_NAME};
+ghost use Rattle.stream.specs.declared.limits.TheConstants.{LONGEST_NAME};
 
 use stream::LONGEST_NAME;
 
@@ -17,16 +17,6 @@ pub struct Name {
 impl Name {
     ghost use Rattle.table.specs.Names.{name_of};
 
-    /// The empty name, of the state before the first snapshot; `Default` gives the same.
-    pub fn empty() -> Name
-        ensures { name_of result ≡ [] }
-    {
-        Name {
-            bytes: [0; LONGEST_NAME],
-            length: 0,
-        }
-    }
-
     /// The name with these bytes.
     pub fn of(bytes: &[u8]) -> Name
         requires { length bytes.now ≤ LONGEST_NAME }
@@ -36,6 +26,13 @@ impl Name {
             bytes: padded(bytes),
             length: bytes.len(),
         }
+    }
+
+    /// The empty name, of the state before the first snapshot; `Default` gives the same.
+    pub fn empty() -> Name
+        ensures { name_of result ≡ [] }
+    {
+        Name::of(&[])
     }
 
     /// Its bytes.

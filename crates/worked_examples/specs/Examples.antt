@@ -3,8 +3,8 @@
 -- the sets of the two kinds of images, tables and the shelf's settle, and on faults.
 use Rattle.std.specs.Prelude.{◌≡◌, ℕ, List, [], ◌∷◌, ◌++◌, length, replicate, Ok, Err, codes, Result}
 use Rattle.fault.specs.Fault.{fault, in_record}
-use Rattle.fault.specs.declared.kinds.Cause.TheVariants.{Header, Cut, BadRange, NoRoom}
-use Rattle.fault.specs.declared.kinds.Fault.{Fault}
+use Rattle.fault.specs.declared.cause.Cause.TheVariants.{Header, Cut, BadRange, NoRoom}
+use Rattle.fault.specs.declared.fault.Fault.{Fault}
 use Rattle.stream.specs.Records.{Content, data_at, zeros_at, header, stream_bytes, metas}
 use Rattle.stream.specs.Verdict.{verdict, check_answer}
 use Rattle.listing.specs.Lists.{stream_text}

@@ -1,5 +1,5 @@
-pub mod Tail
-pub mod Opening
+pub mod BufferTail
+pub mod StreamHead
 mod Numbers
-mod Accepted
-mod Series
+mod AcceptedCalls
+mod CallSeries

@@ -2,11 +2,11 @@
 -- the checks of one record, on where a reader stands after it, and on faults.
 use Rattle.std.specs.Prelude.{◌≡◌, ℕ, ◌+◌, ◌≤◌, Bool, if◌then◌else◌, ◌&&◌, ◌||◌, List, length, is_ok, Ok, Err, Result, ◌==◌, nat_le, nat_lt}
 use Rattle.stream.specs.Bytes.{buffer_with}
-use Rattle.stream.specs.Records.{Content, from_name, to_name, image_size, data_at, zeros_at, record_bytes, offset_of}
+use Rattle.stream.specs.Records.{Content, data_at, zeros_at, record_bytes, offset_of}
 use Rattle.stream.specs.Steps.{Pos, every_printable}
 use Rattle.stream.specs.Wellformed.{pos_past, GoodRange}
 use Rattle.stream.specs.Rule.{Data}
-use Rattle.stream.specs.declared.kinds.TheConstants.{MOST_RECORDS, LONGEST_NAME, LARGEST_SIZE}
+use Rattle.stream.specs.declared.limits.TheConstants.{MOST_RECORDS, LONGEST_NAME, LARGEST_SIZE}
 use Rattle.writer.specs.Fields.{opening, end_record}
 use Rattle.writer.specs.declared.heading.Heading.{Heading}
 use Rattle.writer.specs.declared.opened.Opened.{Opened}
@@ -14,9 +14,9 @@ use Rattle.writer.specs.declared.recording.Recording.{Recording}
 use Rattle.writer.specs.declared.ended.Ended.{Ended}
 use Rattle.writer.specs.declared.refused.Refused.{Refused}
 use Rattle.fault.specs.Fault.{and_then, fault, err_by}
-use Rattle.fault.specs.declared.kinds.Fault.{Fault}
-use Rattle.fault.specs.declared.kinds.Cause.{Cause}
-use Rattle.fault.specs.declared.kinds.Cause.TheVariants as causes
+use Rattle.fault.specs.declared.fault.Fault.{Fault}
+use Rattle.fault.specs.declared.cause.Cause.{Cause}
+use Rattle.fault.specs.declared.cause.Cause.TheVariants as causes
 
 -- whether a name may stand in a stream: it is neither empty nor too long, and each byte is
 -- printable
@@ -78,11 +78,9 @@ pub record Opens (room : ℕ) (from to : List ℕ) (size : ℕ) (h : Heading) : 
 
 -- how many bytes of the image a record is about. Metadata is about none
 abbrev pub extent : Content → ℕ
-extent (from_name name) = 0
-extent (to_name name) = 0
-extent (image_size n) = 0
 extent (data_at offset bytes) = length bytes
 extent (zeros_at offset n) = n
+extent meta = 0
 
 -- where a reader of the bytes written so far stands, ready for data
 abbrev pub writer_pos : Recording → Pos

@@ -1,6 +1,6 @@
 // What stands before the data records of a stream: the header, the names and the size.
 ghost use Rattle.std.specs.Prelude.{◌≡◌, ◌+◌, ◌≤◌, length};
-ghost use Rattle.stream.specs.declared.kinds.TheConstants.{LONGEST_NAME};
+ghost use Rattle.stream.specs.declared.limits.TheConstants.{LONGEST_NAME};
 ghost use Rattle.stream.specs.Bytes.{buffer_with};
 ghost use Rattle.stream.specs.Records.{records_bytes, from_records};
 ghost use Rattle.writer.specs.Fields.{opening};
@@ -48,7 +48,7 @@ fn put_from(tail: &mut [u8], from: &[u8])
 
 // Writes the header, f unless the from name is empty, t and s. Each is given the rest of the slice
 // from where the last one ended.
-#[tactic(auto, using(crate::proofs::Opening::length_opening))]
+#[tactic(auto, using(crate::proofs::StreamHead::length_opening))]
 fn put_opening(tail: &mut [u8], from: &[u8], to: &[u8], size: u64)
     requires short_from { length from.now ≤ LONGEST_NAME }
     requires short_to { length to.now ≤ LONGEST_NAME }
@@ -68,7 +68,7 @@ impl<'a> Heading<'a> {
     ghost use Rattle.writer.specs.Calls.{opening_of};
 
     /// The bytes that header, names and size take.
-    #[tactic(auto, using(crate::proofs::Opening::length_opening))]
+    #[tactic(auto, using(crate::proofs::StreamHead::length_opening))]
     pub fn length(self) -> usize
         ensures exact { result ≡ length (opening_of self.entry) }
         ensures short { result ≤ LONGEST_OPENING }

@@ -1,6 +1,6 @@
 // A writer that takes data records.
 ghost use Rattle.std.specs.Prelude.{◌+◌, ◌*◌, ◌≤◌};
-ghost use Rattle.stream.specs.declared.kinds.TheConstants.{MOST_RECORDS, LARGEST_SIZE, RANGE_HEAD};
+ghost use Rattle.stream.specs.declared.limits.TheConstants.{MOST_RECORDS, LARGEST_SIZE, RANGE_HEAD};
 ghost use Rattle.writer.specs.declared.heading.TheConstants.{LONGEST_OPENING};
 
 use crate::ended::Ended;

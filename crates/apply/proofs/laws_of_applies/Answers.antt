@@ -1,5 +1,5 @@
-use Rattle.apply.proofs.Kept.{only_kept}
-use Rattle.apply.proofs.Lawful.{applies_exactly, stops_harmless}
+use Rattle.apply.proofs.KeptPositions.{only_kept}
+use Rattle.apply.proofs.ApplyLaws.{applies_exactly, stops_harmless}
 use Rattle.apply.proofs.laws_of_applies.Goals as goal
 
 pub returns : goal.returns

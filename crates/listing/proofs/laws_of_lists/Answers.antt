@@ -1,5 +1,5 @@
-use Rattle.listing.proofs.Blind.{blind_to_payload}
-use Rattle.listing.proofs.Longest.{ranges_are_longest}
+use Rattle.listing.proofs.PayloadBlindness.{blind_to_payload}
+use Rattle.listing.proofs.LongestRuns.{ranges_are_longest}
 use Rattle.listing.proofs.laws_of_lists.Goals as goal
 
 pub returns : goal.returns

@@ -1,9 +1,26 @@
-ghost use Rattle.std.specs.Prelude.{◌≡◌, ◌+◌, ◌*◌, ◌<◌, ◌≤◌, false, length, replicate, MatchOption};
-ghost use Rattle.store.specs.Images.{image_with};
-ghost use Rattle.paged.specs.State.{places_of, pool_of, value_of, blank_after};
-ghost use Rattle.paged.specs.State.{SoundIn, PutAt, InPage, RoomAfter};
+ghost use Rattle.std.specs.Prelude.{◌≡◌, ℕ, ◌+◌, ◌*◌, ◌<◌, ◌≤◌};
+ghost use Rattle.std.specs.Prelude.{false, length, drop, replicate, slice_index, MatchOption};
+ghost use Rattle.paged.specs.Pages.{places};
 
-use crate::pages::{PAGE, POOL};
+use crate::pages::{PAGE, PLACES, POOL};
+use std::array;
+
+// Zeros at every map place that an image uses.
+pub(super) fn clear_map(map: &mut [u32])
+    ensures len { length map.new ≡ length map.old }
+    ensures clear { (i : ℕ) → i < places map.new → slice_index map.new i ≡ 0 }
+    ensures rest { drop PLACES map.new ≡ drop PLACES map.old }
+{
+    let places = map.len().min(PLACES);
+    map[..places].fill(0);
+}
+
+// The numbers of all pool pages: none is in use.
+pub(super) fn all_spare() -> [u16; POOL]
+    ensures { (k : ℕ) → k < POOL → slice_index result k ≡ k }
+{
+    array::from_fn(|k| k as u16)
+}
 
 // The map and the pool. The numbers of the pool pages that no place has stand in `spare`, from
 // `used` up to the number of pool pages; `used` pages are in use.
@@ -33,6 +50,23 @@ impl Drop for Paging<'_> {
 }
 
 impl<'a> Paging<'a> {
+    ghost use Rattle.paged.specs.State.{places_of, pool_of, value_of, blank_after};
+    ghost use Rattle.paged.specs.State.{SoundIn, PutAt, InPage, RoomAfter};
+
+    // The map places that may be used.
+    pub(crate) fn map_places(&self) -> usize
+        ensures { result ≡ places_of self.now }
+    {
+        self.map.len().min(PLACES)
+    }
+
+    // The pool pages that may be used.
+    pub(crate) fn pool_pages(&self) -> usize
+        ensures { result ≡ pool_of self.now }
+    {
+        (self.pool.len() / PAGE).min(POOL)
+    }
+
     // The pool page of place i, if it has one: the map holds 0 for none, and k + 1 for page k.
     pub(super) fn page(&self, i: usize) -> Option<usize>
         requires { i < places_of self.now }

@@ -1,6 +1,6 @@
-use Rattle.shelf.proofs.Promised.{promise}
-use Rattle.shelf.proofs.Refused.{refusals_alter_nothing}
-use Rattle.shelf.proofs.Tabled.{laws_of_tables}
+use Rattle.shelf.proofs.SeriesPromise.{promise}
+use Rattle.shelf.proofs.CallRefusals.{refusals_alter_nothing}
+use Rattle.shelf.proofs.TableOperations.{laws_of_tables}
 use Rattle.shelf.proofs.laws_of_the_shelf.Goals as goal
 
 pub returns : goal.returns

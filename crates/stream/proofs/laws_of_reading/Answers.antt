@@ -1,10 +1,9 @@
 use Rattle.std.proofs.Common.{refl}
-use Rattle.stream.proofs.Back.{accepted_is_stream}
-use Rattle.stream.proofs.Forth.{reads_back}
-use Rattle.stream.proofs.Refused.{refused_exactly}
-use Rattle.stream.proofs.Refusing.{refuses_exactly}
-use Rattle.stream.proofs.Sounds.{accepted_exactly, sound_exactly}
-use Rattle.stream.proofs.Told.{places_match}
+use Rattle.stream.proofs.WrittenRecords.{reads_back}
+use Rattle.stream.proofs.StreamRefusals.{accepted_is_stream, refused_exactly}
+use Rattle.stream.proofs.RecordRefusals.{refuses_exactly}
+use Rattle.stream.proofs.SoundLists.{accepted_exactly, sound_exactly}
+use Rattle.stream.proofs.PlacedRecords.{places_match}
 use Rattle.stream.proofs.laws_of_reading.Goals as goal
 
 pub returns : goal.returns

@@ -1,4 +1,4 @@
-use Rattle.writer.proofs.Series.{ended_is_stream}
+use Rattle.writer.proofs.CallSeries.{ended_is_stream}
 use Rattle.writer.proofs.whole_runs.Goals as goal
 
 pub returns : goal.returns

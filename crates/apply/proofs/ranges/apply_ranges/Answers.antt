@@ -5,13 +5,13 @@ use Rattle.overlay.specs.declared.ranges.RangeMark.{RangeMark}
 use Rattle.overlay.specs.declared.ranges.RangeMark.TheVariants.{Zeroed}
 use Rattle.overlay.specs.declared.payloads.PayloadMark.{PayloadMark}
 use Rattle.overlay.specs.Runs.{run_end}
-use Rattle.overlay.proofs.Painted.{rising_le}
+use Rattle.overlay.proofs.RunPositions.{rising_le}
 use Rattle.stream.specs.Places.{run_record}
 use Rattle.apply.specs.Steps.{Step, with_number, range_records, steps_from}
 use Rattle.apply.specs.Applies.{apply_steps}
-use Rattle.apply.proofs.Cursors.{rising_at, window_steps}
-use Rattle.apply.proofs.Inside.{both_inside}
-use Rattle.apply.proofs.Turns.{goes_on, ends_here, all_done}
+use Rattle.apply.proofs.RangeParts.{rising_at, window_steps}
+use Rattle.apply.proofs.ImageChanges.{both_inside}
+use Rattle.apply.proofs.StepSeries.{goes_on, ends_here, all_done}
 use Rattle.apply.proofs.ranges.apply_ranges.Goals as goal
 
 -- the range that a read past the end would give

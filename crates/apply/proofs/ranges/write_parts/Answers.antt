@@ -6,9 +6,9 @@ use Rattle.overlay.specs.declared.payloads.PayloadMark.TheVariants.{Zeroed}
 use Rattle.stream.specs.Places.{run_record}
 use Rattle.apply.specs.Steps.{Step, with_number, writes}
 use Rattle.apply.specs.Applies.{apply_steps}
-use Rattle.apply.proofs.Inside.{both_inside}
-use Rattle.apply.proofs.Parted.{part_lies}
-use Rattle.apply.proofs.Turns.{goes_on, ends_here, all_done, writes_more}
+use Rattle.apply.proofs.ImageChanges.{both_inside}
+use Rattle.apply.proofs.PartFacts.{part_lies}
+use Rattle.apply.proofs.StepSeries.{goes_on, ends_here, all_done, writes_more}
 use Rattle.apply.proofs.ranges.write_parts.Goals as goal
 
 -- the part that a read past the end would give

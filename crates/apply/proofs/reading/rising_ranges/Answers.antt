@@ -2,8 +2,8 @@ use Rattle.std.proofs.Common.{List, sym, subst, arith}
 use Rattle.overlay.specs.declared.runs.Run.{Run}
 use Rattle.overlay.specs.declared.ranges.RangeMark.{RangeMark}
 use Rattle.overlay.specs.Runs.{Rising}
-use Rattle.apply.proofs.Parted.{parts_few}
-use Rattle.apply.proofs.Ranged.{part_ranges_rise}
+use Rattle.apply.proofs.PartFacts.{parts_few}
+use Rattle.apply.proofs.RangeKinds.{part_ranges_rise}
 use Rattle.apply.proofs.reading.rising_ranges.Goals as goal
 
 pub find_ranges-requires : goal.find_ranges-requires

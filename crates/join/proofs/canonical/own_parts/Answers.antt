@@ -1,7 +1,7 @@
 use Rattle.std.proofs.Common.{◌^◌, ◌<◌, length, refl, sym, rules}
 use Rattle.stream.specs.Streams.{stream_cells}
-use Rattle.stream.proofs.Kept.{small_size, short_from, short_to, cells_ranges}
-use Rattle.join.proofs.Kept.{own_placed, own_length}
+use Rattle.stream.proofs.StreamFacts.{small_size, short_from, short_to, cells_ranges}
+use Rattle.join.proofs.StreamLengths.{own_placed, own_length}
 use Rattle.join.proofs.canonical.own_parts.Goals as goal
 
 pub invariant_of-result : goal.invariant_of-result

@@ -1,7 +1,7 @@
-use Rattle.join.proofs.Accepted.{sound_expressible}
-use Rattle.join.proofs.Expressed.{canonical_law}
-use Rattle.join.proofs.InTurn.{canonical_means}
-use Rattle.stream.proofs.Ranged.{ranges_runs}
+use Rattle.join.proofs.Expressible.{sound_expressible}
+use Rattle.join.proofs.CanonicalRecords.{canonical_law}
+use Rattle.join.proofs.Associativity.{canonical_means}
+use Rattle.stream.proofs.FoundRanges.{ranges_runs}
 use Rattle.join.proofs.Records.{length_canonical}
 use Rattle.join.proofs.laws.laws_of_canonical_streams.Goals as goal
 

@@ -1,4 +1,4 @@
-use Rattle.join.proofs.Kept.{found_rise, plan_found}
+use Rattle.join.proofs.StreamLengths.{found_rise, plan_found}
 use Rattle.join.proofs.plans.find_own_plan.Goals as goal
 
 pub stream_length-requires-clause-rising : goal.stream_length-requires-clause-rising

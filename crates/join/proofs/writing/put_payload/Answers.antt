@@ -1,12 +1,12 @@
 use Rattle.std.proofs.Common.{◌≡◌, ◌-◌, ◌^◌, ◌<◌, ◌≤◌, ◌++◌, length, sym, ap, ◌∙◌, arith, length-drop, length-take, rules}
 use Rattle.overlay.specs.Marks.{payload_moves}
-use Rattle.overlay.proofs.Walking.{left_on, left_further}
+use Rattle.overlay.proofs.WalkPieces.{left_on, left_further}
 use Rattle.stream.specs.Bytes.{buffer_with}
 use Rattle.stream.specs.Difference.{payload_at}
-use Rattle.writer.proofs.Tail.{lent_on}
+use Rattle.writer.proofs.BufferTail.{lent_on}
 use Rattle.join.specs.Parts.{joined_cells, named_bytes}
 use Rattle.join.proofs.Payloads.{piece_found, even_left, payload_to, length_payload}
-use Rattle.stream.proofs.Ranged.{length_cells}
+use Rattle.stream.proofs.FoundRanges.{length_cells}
 use Rattle.join.proofs.writing.put_payload.Goals as goal
 
 pub put_part-requires : goal.put_part-requires

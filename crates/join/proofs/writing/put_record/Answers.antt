@@ -4,11 +4,11 @@ use Rattle.stream.specs.Bytes.{le_bytes, buffer_with}
 use Rattle.stream.specs.Records.{record_bytes}
 use Rattle.stream.specs.Difference.{payload_at, range_content}
 use Rattle.writer.specs.Fields.{range_head}
-use Rattle.writer.proofs.Tail.{lent_on}
+use Rattle.writer.proofs.BufferTail.{lent_on}
 use Rattle.join.specs.Lengths.{marked_length}
 use Rattle.join.specs.Parts.{joined_cells}
 use Rattle.join.proofs.Payloads.{length_payload}
-use Rattle.stream.proofs.Ranged.{length_cells}
+use Rattle.stream.proofs.FoundRanges.{length_cells}
 use Rattle.join.proofs.writing.put_record.Goals as goal
 
 pub returns-in-Written-clause-buffer : goal.returns-in-Written-clause-buffer

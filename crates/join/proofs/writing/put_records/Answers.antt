@@ -4,9 +4,9 @@ use Rattle.overlay.specs.Runs.{run_end}
 use Rattle.stream.specs.Bytes.{buffer_with}
 use Rattle.stream.specs.Records.{record_bytes, records_bytes}
 use Rattle.stream.specs.Difference.{content_of}
-use Rattle.writer.proofs.Tail.{lent_on}
+use Rattle.writer.proofs.BufferTail.{lent_on}
 use Rattle.join.specs.Parts.{joined_cells}
-use Rattle.stream.proofs.Ranged.{length_cells}
+use Rattle.stream.proofs.FoundRanges.{length_cells}
 use Rattle.join.proofs.Records.{run_of, next_rising, next_ranged, next_length, next_bytes, length_record}
 use Rattle.join.proofs.writing.put_records.Goals as goal
 

@@ -5,11 +5,11 @@ use Rattle.stream.specs.Bytes.{buffer_with}
 use Rattle.stream.specs.Records.{records_bytes}
 use Rattle.stream.specs.Difference.{content_of}
 use Rattle.writer.specs.Fields.{opening}
-use Rattle.writer.proofs.Opening.{length_opening}
-use Rattle.writer.proofs.Tail.{lent_on, patched_on}
+use Rattle.writer.proofs.StreamHead.{length_opening}
+use Rattle.writer.proofs.BufferTail.{lent_on, patched_on}
 use Rattle.join.specs.Lengths.{records_length}
 use Rattle.join.specs.Parts.{joined_cells, joined_difference, AllRanged}
-use Rattle.stream.proofs.Ranged.{length_cells}
+use Rattle.stream.proofs.FoundRanges.{length_cells}
 use Rattle.join.proofs.Records.{parts_rise, parts_ranged, length_records, canonical_is}
 use Rattle.join.proofs.writing.put_stream.Goals as goal
 

@@ -1,10 +1,11 @@
 use Rattle.std.proofs.Common.{length, get_or, take, sym, refl, ap, ◌∙◌, arith}
-use Rattle.std.proofs.lemmas.List.{length-append}
+use Rattle.std.specs.List.{flat_map}
+use Rattle.std.proofs.lemmas.List.Folds.{length-flat_map-take}
+use Rattle.std.proofs.lemmas.List.{take_all, length-append, length-take, length-drop}
 use Rattle.stream.specs.Bytes.{buffer_with}
-use Rattle.writer.proofs.Tail.{lent_on, patched_none, patched_on, length_patched}
-use Rattle.listing.specs.Text.{heading, line, lines}
-use Rattle.listing.proofs.Lines.{none, lines_more, lines_room, lines_all, length_listing, listing_is}
-use Rattle.listing.proofs.Rooms.{patched_room}
+use Rattle.writer.proofs.BufferTail.{lent_on, patched_none, patched_on, length_patched}
+use Rattle.listing.specs.Text.{heading, line}
+use Rattle.listing.proofs.Lines.{none, lines_more, length_listing, listing_is}
 use Rattle.listing.proofs.text.put_text.Goals as goal
 
 pub put_bytes-requires : goal.put_bytes-requires
@@ -21,22 +22,23 @@ put_line-at-requires c =
     let v = c.loop-run.invariant in
     let rs = c.args.ranges.now in
     let i = c.loop-run.run-index in
-    patched_room c.put_bytes.new.tail c.loop-run.out (lines (take i rs)) 19 c.loop-run.at (length (line (get_or rs i none))) v.1 (omega (arith, v.0, v.2, lines_room rs i c.loop-run-test.true))
-    (omega (arith, v.0, v.2, lines_room rs i c.loop-run-test.true))
+    let r = length-flat_map-take line rs i none c.loop-run-test.true in
+    let l = ap length v.1 ∙ length_patched c.put_bytes.new.tail (flat_map line (take i rs)) 19 (omega (arith, v.2, r)) in
+    simp (length-take, length-drop) (omega (arith, l, v.0, v.2, r))
 
 pub loop-run-preserved : goal.loop-run-preserved
 loop-run-preserved c =
     let v = c.loop-run.invariant in
     let rs = c.args.ranges.now in
     let i = c.loop-run.run-index in
-    let r = lines_room rs i c.loop-run-test.true in
+    let r = length-flat_map-take line rs i none c.loop-run-test.true in
     let m = lines_more rs i c.loop-run-test.true in
-    let k = ap length m ∙ length-append (lines (take i rs)) (line (get_or rs i none)) in
+    let k = ap length m ∙ length-append (flat_map line (take i rs)) (line (get_or rs i none)) in
     let a = v.0 in
     let b = v.2 in
     let t = c.put_line-at.ensures.taken in (
       omega arith,
-      lent_on c.put_bytes.new.tail c.loop-run.out _ (lines (take i rs)) (line (get_or rs i none)) 19 c.loop-run.at v.1 a (omega arith) c.put_line-at.ensures.buffer
+      lent_on c.put_bytes.new.tail c.loop-run.out _ (flat_map line (take i rs)) (line (get_or rs i none)) 19 c.loop-run.at v.1 a (omega arith) c.put_line-at.ensures.buffer
           ∙ ap (buffer_with c.put_bytes.new.tail 19) (sym m),
       b,
     )
@@ -46,7 +48,7 @@ returns c =
     let v = c.loop-run.invariant in
     let rs = c.args.ranges.now in
     let l = length_listing rs in
-    v.1 ∙ ap (buffer_with c.put_bytes.new.tail 19) (lines_all rs c.loop-run.run-index c.loop-run-test.false)
-    ∙ ap (λ t. buffer_with t 19 (lines rs)) c.put_bytes.ensures
-    ∙ patched_on c.args.out.now heading (lines rs) 0 (omega arith)
+    v.1 ∙ ap (buffer_with c.put_bytes.new.tail 19) (ap (flat_map line) (take_all c.loop-run.run-index rs c.loop-run-test.false))
+    ∙ ap (λ t. buffer_with t 19 (flat_map line rs)) c.put_bytes.ensures
+    ∙ patched_on c.args.out.now heading (flat_map line rs) 0 (omega arith)
     ∙ ap (buffer_with c.args.out.now 0) (listing_is rs)

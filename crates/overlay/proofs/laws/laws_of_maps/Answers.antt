@@ -1,4 +1,4 @@
-use Rattle.overlay.proofs.Overlaid.{maps_through, maps_through_all}
+use Rattle.overlay.proofs.OverlayLaws.{maps_through, maps_through_all}
 use Rattle.overlay.proofs.laws.laws_of_maps.Goals as goal
 
 pub returns : goal.returns

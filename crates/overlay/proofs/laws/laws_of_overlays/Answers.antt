@@ -1,4 +1,4 @@
-use Rattle.overlay.proofs.Overlaid.{bracketing, over_nothing, stretches_unite}
+use Rattle.overlay.proofs.OverlayLaws.{bracketing, over_nothing, stretches_unite}
 use Rattle.overlay.proofs.laws.laws_of_overlays.Goals as goal
 
 pub returns : goal.returns

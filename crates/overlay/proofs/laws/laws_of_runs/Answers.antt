@@ -1,5 +1,5 @@
-use Rattle.overlay.proofs.Bridge.{one_runs}
-use Rattle.overlay.proofs.Exists.{exists}
+use Rattle.overlay.proofs.StateLists.{one_runs}
+use Rattle.overlay.proofs.CanonicalRuns.{exists}
 use Rattle.overlay.proofs.laws.laws_of_runs.Goals as goal
 
 pub returns : goal.returns

@@ -1,8 +1,8 @@
 use Rattle.std.proofs.Common.{take, sym, refl, arith, length-take}
 use Rattle.std.proofs.lemmas.List.{take-append-drop}
 use Rattle.overlay.specs.Walks.{Grown}
-use Rattle.overlay.proofs.Pushing.{grown_kept, grown_run}
-use Rattle.overlay.proofs.Filling.{filled, fills_as}
+use Rattle.overlay.proofs.RunEnds.{grown_kept, grown_run}
+use Rattle.overlay.proofs.BufferRuns.{filled, fills_as}
 use Rattle.overlay.proofs.overlays.add.Goals as goal
 
 pub returns-in_default : goal.returns-in_default

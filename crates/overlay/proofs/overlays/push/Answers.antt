@@ -3,8 +3,8 @@ use Rattle.std.proofs.lemmas.List.{take_all, take_more_set, take-append-drop, dr
 use Rattle.std.proofs.lemmas.Bool.Decides.{not_from_Decides}
 use Rattle.overlay.specs.declared.runs.Run.{Run}
 use Rattle.overlay.specs.Walks.{Pushed}
-use Rattle.overlay.proofs.Pushing.{last_under, merged, added_first, added_next}
-use Rattle.overlay.proofs.Filling.{filled, filled_up}
+use Rattle.overlay.proofs.RunEnds.{last_under, merged, added_first, added_next}
+use Rattle.overlay.proofs.BufferRuns.{filled, filled_up}
 use Rattle.overlay.proofs.overlays.push.Given.{Over}
 use Rattle.overlay.proofs.overlays.push.Goals as goal
 use Rattle.overlay.proofs.overlays.push.Goals.{Joined-out-k-lt1, in_default, in-len1-up+else-continues}

@@ -1,8 +1,8 @@
 use Rattle.std.proofs.Common.{◌≡◌, ◌^◌, ◌<◌, ◌≤◌, [], arith, rules}
 use Rattle.std.proofs.lemmas.List.{nil_from_length}
 use Rattle.overlay.specs.Runs.{run_end}
-use Rattle.overlay.proofs.Painted.{rising_le}
-use Rattle.overlay.proofs.Walking.{first_of, even_gap, even_run, edges_size, edges_offset, edges_ends}
+use Rattle.overlay.proofs.RunPositions.{rising_le}
+use Rattle.overlay.proofs.WalkPieces.{first_of, even_gap, even_run, edges_size, edges_offset, edges_ends}
 use Rattle.overlay.proofs.sheets.first_piece.Goals as goal
 
 pub end-requires : goal.end-requires

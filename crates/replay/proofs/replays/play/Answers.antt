@@ -1,8 +1,8 @@
 use Rattle.std.proofs.Common.{◌<◌, ◌≤◌, length, take, sym, refl, ◌∙◌, subst, arith, length-take}
 use Rattle.std.proofs.lemmas.List.{get_or-take}
 use Rattle.replay.specs.Replays.{scene}
-use Rattle.replay.proofs.Turns.{begins, one_more, one_size, ended, kept_on}
-use Rattle.replay.proofs.Replayed.{replays, empty_size}
+use Rattle.replay.proofs.RequestSeries.{begins, one_more, ended, kept_on}
+use Rattle.replay.proofs.ReplayPromise.{replays, empty_size}
 use Rattle.replay.proofs.replays.play.Goals as goal
 
 pub loop-i-init : goal.loop-i-init
@@ -22,11 +22,8 @@ loop-i-preserved g c =
     let within : i < length (take n xs) = omega (arith, length-take n xs, length-take k xs) in
     let asked = get_or-take k xs i _ under ∙ sym (get_or-take n xs i _ here) in
     let going = c.loop-i.invariant.1 in
-    let size = one_size _ _ _ _ i now c.loop-i.answers going (m.holds c.loop-i.base) c.loop-i.invariant.0 _ _ _ within asked made.outcome in (
-      made.same ∙ c.loop-i.invariant.0,
-      one_more _ _ _ _ i now c.loop-i.answers going (m.holds c.loop-i.base) c.loop-i.invariant.0 _ _ _ within (omega (arith, c.loop-i.auto.answers, length-take k xs)) asked made.outcome,
-      kept_on m.past c.args.base.now c.loop-i.base c.make_call.new.base _ _ c.loop-i.invariant.2 made.past size,
-    )
+    let more = one_more _ _ _ _ i now c.loop-i.answers going (m.holds c.loop-i.base) c.loop-i.invariant.0 _ _ _ within (omega (arith, c.loop-i.auto.answers, length-take k xs)) asked made.outcome in
+    (made.same ∙ c.loop-i.invariant.0, more.0, kept_on m.past c.args.base.now c.loop-i.base c.make_call.new.base _ _ c.loop-i.invariant.2 made.past more.1)
 
 pub returns : goal.returns
 returns g c =

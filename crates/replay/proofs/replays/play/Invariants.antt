@@ -2,7 +2,7 @@ use Rattle.std.proofs.Common.{◌≡◌, length, take}
 use Rattle.replay.specs.Replays.{scene, calls_made}
 use Rattle.shelf.specs.Series.{largest_size}
 use Rattle.store.specs.Stores.{KeepsPast}
-use Rattle.replay.proofs.Turns.{Going}
+use Rattle.replay.proofs.RequestSeries.{Going}
 use Rattle.replay.proofs.replays.play.Given as goal
 
 abbrev pub invariant-loop-i : goal.invariant-loop-i

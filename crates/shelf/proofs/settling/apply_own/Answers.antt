@@ -2,7 +2,7 @@ use Rattle.std.proofs.Common.{ap, ◌∙◌}
 use Rattle.fault.specs.Fault.{fault_by, in_entry}
 use Rattle.overlay.specs.declared.payloads.Side.TheVariants.{Later}
 use Rattle.store.specs.Stores.{Outcome}
-use Rattle.shelf.proofs.Owned.{own_outcome}
+use Rattle.shelf.proofs.EntryRecords.{own_outcome}
 use Rattle.shelf.proofs.settling.apply_own.Goals as goal
 
 pub returns-clause-outcome : goal.returns-clause-outcome

@@ -5,7 +5,7 @@ use Rattle.overlay.specs.declared.ranges.RangeMark.{RangeMark}
 use Rattle.overlay.specs.declared.payloads.PayloadMark.{PayloadMark}
 use Rattle.overlay.specs.declared.payloads.PayloadMark.TheVariants.{Zeroed}
 use Rattle.overlay.specs.Runs.{with_mark}
-use Rattle.overlay.proofs.Filling.{drop_further, places_room}
+use Rattle.overlay.proofs.BufferRuns.{drop_further, places_room}
 use Rattle.overlay.specs.Marks.{range_of}
 use Rattle.stream.proofs.ranges.put_kinds.Goals as goal
 
@@ -13,18 +13,14 @@ use Rattle.stream.proofs.ranges.put_kinds.Goals as goal
 abbrev none : Run PayloadMark
 none = record { offset = 0; length = 0; mark = Zeroed }
 
--- a run with another mark
-abbrev remark : Run PayloadMark → RangeMark → Run RangeMark
-remark r m = record { offset = r.offset; length = r.length; mark = m }
-
 one_more : (parts : List (Run PayloadMark)) (out : List (Run RangeMark)) (i : ℕ) (m : RangeMark) → i < length parts → i < length out
     → m ≡ range_of (get_or parts i none).mark → take i out ≡ map (with_mark range_of) (take i parts)
     → take (i + 1) (set out i (record { offset = (get_or parts i none).offset; length = (get_or parts i none).length; mark = m })) ≡ map (with_mark range_of) (take (i + 1) parts)
 one_more parts out i m h k e inv =
     let r = get_or parts i none in
-    let x : Run RangeMark = record { offset = r.offset; length = r.length; mark = m } in
-    let g : x ≡ with_mark range_of r = ap (remark r) e in
-    take_more_set out i x k ∙ ap₂ (λ a b. a ++ (b ∷ [])) inv g ∙ sym (map_push (with_mark range_of) (take i parts) r) ∙ ap (map (with_mark range_of)) (sym (take_more parts i none h))
+    let remark : RangeMark → Run RangeMark = λ m. record { offset = r.offset; length = r.length; mark = m } in
+    let g : remark m ≡ with_mark range_of r = ap remark e in
+    take_more_set out i (remark m) k ∙ ap₂ (λ a b. a ++ (b ∷ [])) inv g ∙ sym (map_push (with_mark range_of) (take i parts) r) ∙ ap (map (with_mark range_of)) (sym (take_more parts i none h))
 
 pub loop-i-preserved : goal.loop-i-preserved
 loop-i-preserved c =

@@ -1,9 +1,9 @@
 use Rattle.std.proofs.Common.{refl, ap, ◌∙◌, arith}
 use Rattle.overlay.specs.Buffers.{run_count, first_places}
-use Rattle.overlay.proofs.Filling.{placed, count_room}
+use Rattle.overlay.proofs.BufferRuns.{placed, count_room}
 use Rattle.stream.specs.Parts.{range_runs}
-use Rattle.stream.proofs.Ranged.{over_none_runs}
-use Rattle.stream.proofs.Fewest.{united_few}
+use Rattle.stream.proofs.FoundRanges.{over_none_runs}
+use Rattle.stream.proofs.RangeCounts.{united_few}
 use Rattle.stream.proofs.ranges.unite.Goals as goal
 
 pub unwrap-requires : goal.unwrap-requires

@@ -1,6 +1,6 @@
 use Rattle.std.proofs.Common.{[], ◌∷◌, ◌++◌, refl, ap, ◌∙◌, arith}
 use Rattle.stream.specs.Bytes.{le_bytes, buffer_with}
-use Rattle.writer.proofs.Tail.{lent_on}
+use Rattle.writer.proofs.BufferTail.{lent_on}
 use Rattle.writer.proofs.Numbers.{in_eight}
 use Rattle.writer.proofs.fields.put_numbers.Goals as goal
 

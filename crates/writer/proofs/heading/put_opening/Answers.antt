@@ -3,8 +3,8 @@ use Rattle.std.proofs.lemmas.List.{length-append}
 use Rattle.stream.specs.Bytes.{le_bytes, buffer_with}
 use Rattle.stream.specs.Records.{header, records_bytes, from_records}
 use Rattle.writer.specs.Fields.{name_record}
-use Rattle.writer.proofs.Tail.{lent_on}
-use Rattle.writer.proofs.Opening.{opening_is, length_opening}
+use Rattle.writer.proofs.BufferTail.{lent_on}
+use Rattle.writer.proofs.StreamHead.{opening_is, length_opening}
 use Rattle.writer.proofs.Numbers.{in_eight}
 use Rattle.writer.proofs.heading.put_opening.Goals as goal
 

@@ -1,6 +1,6 @@
 use Rattle.std.proofs.Common.{◌+◌, length, refl, arith}
 use Rattle.writer.specs.Fields.{range_head}
-use Rattle.writer.proofs.Tail.{lent, lent_on}
+use Rattle.writer.proofs.BufferTail.{lent, lent_on}
 use Rattle.writer.proofs.records.place_data.Goals as goal
 
 pub returns : goal.returns

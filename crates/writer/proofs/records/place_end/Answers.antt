@@ -1,6 +1,6 @@
 use Rattle.std.proofs.Common.{arith}
 use Rattle.writer.specs.Fields.{end_record}
-use Rattle.writer.proofs.Tail.{lent}
+use Rattle.writer.proofs.BufferTail.{lent}
 use Rattle.writer.proofs.records.place_end.Goals as goal
 
 pub returns : goal.returns

@@ -1,6 +1,6 @@
 use Rattle.std.proofs.Common.{arith}
 use Rattle.writer.specs.Fields.{range_head}
-use Rattle.writer.proofs.Tail.{lent}
+use Rattle.writer.proofs.BufferTail.{lent}
 use Rattle.writer.proofs.records.place_zeros.Goals as goal
 
 pub returns : goal.returns

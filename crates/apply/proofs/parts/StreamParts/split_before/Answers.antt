@@ -1,8 +1,8 @@
 use Rattle.std.proofs.Common.{sym, subst}
 use Rattle.overlay.specs.Runs.{Rising}
-use Rattle.overlay.proofs.Painted.{rising_drop}
+use Rattle.overlay.proofs.RunPositions.{rising_drop}
 use Rattle.apply.specs.Read.{WellParted}
-use Rattle.apply.proofs.Parted.{rising_take, front_parted, back_parted}
+use Rattle.apply.proofs.PartFacts.{rising_take, front_parted, back_parted}
 use Rattle.apply.proofs.parts.StreamParts.split_before.Goals as goal
 
 pub invariant_of-before : goal.invariant_of-before

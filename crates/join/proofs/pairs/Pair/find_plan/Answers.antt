@@ -1,11 +1,11 @@
 use Rattle.std.proofs.Common.{ℕ, Ok, sym, ap, ◌∙◌, ap₂, arith}
-use Rattle.overlay.proofs.Filling.{placed}
+use Rattle.overlay.proofs.BufferRuns.{placed}
 use Rattle.stream.specs.Meaning.{ranges}
 use Rattle.join.specs.declared.plans.Plan.{Plan}
 use Rattle.join.specs.Joins.{pair_join}
 use Rattle.join.specs.Plans.{plan_of}
-use Rattle.stream.proofs.Kept.{small_size}
-use Rattle.join.proofs.Links.{join_rises, join_length_by_ranges, limited_ok}
+use Rattle.stream.proofs.StreamFacts.{small_size}
+use Rattle.join.proofs.PairOverlays.{join_rises, join_length_by_ranges, limited_ok}
 use Rattle.join.proofs.pairs.Pair.find_plan.Goals as goal
 
 pub stream_length-requires-clause-rising : goal.stream_length-requires-clause-rising

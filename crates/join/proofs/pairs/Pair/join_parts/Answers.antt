@@ -1,7 +1,7 @@
 use Rattle.std.proofs.Common.{◌^◌, ◌<◌, length, sym, subst, rules}
 use Rattle.overlay.specs.Runs.{RunsOf}
-use Rattle.overlay.proofs.Filling.{placed}
-use Rattle.join.proofs.Links.{join_cells, join_placed}
+use Rattle.overlay.proofs.BufferRuns.{placed}
+use Rattle.join.proofs.PairOverlays.{join_cells, join_placed}
 use Rattle.join.proofs.pairs.Pair.join_parts.Goals as goal
 
 pub returns-clause-placed : goal.returns-clause-placed

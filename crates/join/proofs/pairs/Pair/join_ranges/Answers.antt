@@ -1,6 +1,6 @@
 use Rattle.std.proofs.Common.{ap, ◌∙◌}
 use Rattle.overlay.specs.Buffers.{run_count, first_places}
-use Rattle.join.proofs.Links.{join_ranged}
+use Rattle.join.proofs.PairOverlays.{join_ranged}
 use Rattle.join.proofs.pairs.Pair.join_ranges.Goals as goal
 
 pub returns : goal.returns

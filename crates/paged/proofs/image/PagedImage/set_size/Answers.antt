@@ -1,9 +1,8 @@
-use Rattle.std.proofs.Common.{List, sym, refl, ◌∙◌, ⊎_elim, arith}
+use Rattle.std.proofs.Common.{List, sym, ◌∙◌, ⊎_elim, arith}
 use Rattle.std.proofs.lemmas.List.{get_or-take}
 use Rattle.std.proofs.lemmas.Bool.{cases_lt}
 use Rattle.paged.specs.Pages.{all_pages}
-use Rattle.paged.proofs.PageLaws.{length_all}
-use Rattle.paged.proofs.Whole.{valid_of, take_resized}
+use Rattle.paged.proofs.ImagePages.{valid_of, take_resized}
 use Rattle.paged.proofs.image.PagedImage.set_size.Goals as goal
 
 pub invariant_of-self : goal.invariant_of-self
@@ -16,13 +15,7 @@ invariant_of-self c =
     in
     record { valid = v }
 
-pub returns : goal.returns
-returns c =
+pub returns-clause-image : goal.returns-clause-image
+returns-clause-image c =
     let s = c.args.self.now in
-    let table = s.pages.paging.map.now in
-    let pool = s.pages.paging.pool.now in
-    record {
-      same = refl;
-      image = take_resized (all_pages table pool) s.size c.args.size (omega (arith, c.requires.room, length_all table pool s.pages.sound.placed.mapped)) s.valid.ended;
-      kept = refl;
-    }
+    take_resized (all_pages s.pages.paging.map.now s.pages.paging.pool.now) s.size c.args.size (omega (arith, c.requires.room)) s.valid.ended

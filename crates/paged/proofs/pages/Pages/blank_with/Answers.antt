@@ -2,7 +2,8 @@ use Rattle.std.proofs.Common.{◌≡◌, ℕ, suc, ◌+◌, ◌-◌, ◌*◌, Bo
 use Rattle.std.proofs.lemmas.List.{take_all}
 use Rattle.store.specs.Images.{image_with}
 use Rattle.paged.specs.Pages.{all_pages, page_of, page_at, blank}
-use Rattle.paged.proofs.Puts.{page_value, blank_none, blank_in_blank, blank_around, blank_zeros}
+use Rattle.paged.proofs.PageLaws.{page_value}
+use Rattle.paged.proofs.PagePuts.{blank_none, blank_in_blank, blank_around, blank_zeros}
 use Rattle.paged.proofs.pages.Pages.blank_with.Goals as goal
 
 pub returns-then-not-all_zero : goal.returns-then-not-all_zero

@@ -3,8 +3,7 @@ use lib.ListN.{length-replicate}
 use Rattle.std.proofs.lemmas.Bool.{eq-eqb}
 use Rattle.store.specs.Images.{image_with}
 use Rattle.paged.specs.Pages.{all_pages, page_of, blank}
-use Rattle.paged.proofs.PageLaws.{length_all}
-use Rattle.paged.proofs.Puts.{blank_zeroed, kept_page}
+use Rattle.paged.proofs.PagePuts.{blank_zeroed, kept_page}
 use Rattle.paged.proofs.pages.Pages.clear.Goals as goal
 
 pub returns-in_default : goal.returns-in_default
@@ -15,7 +14,7 @@ returns-in_default c =
     let all : List ℕ = all_pages s.map.now s.pool.now in
     let zeros : List ℕ = replicate 256 0 in
     let lz : length zeros ≡ 256 = length-replicate {A = ℕ} 256 0 in
-    let whole : 256 * i + 256 ≤ length all = omega (arith, length_all s.map.now s.pool.now c.args.self.now.sound.placed.mapped, c.requires.here) in
+    let whole : 256 * i + 256 ≤ length all = omega (arith, c.requires.here) in
     let was : blank (page_of all i) ≡ true = c.args.self.now.sound.filled i c.requires.here ∙ eq-eqb (get_or s.map.now i 0) 0 none in
     record {
       kept = refl;

@@ -2,7 +2,7 @@ use Rattle.std.proofs.Common.{◌≡◌, ℕ, ◌+◌, ◌*◌, Bool, true, fals
 use Rattle.std.proofs.lemmas.Bool.{eq-eqb}
 use Rattle.store.specs.Images.{image_with}
 use Rattle.paged.specs.Pages.{all_pages, page_of, blank}
-use Rattle.paged.proofs.Puts.{page_fits, no_page, kept_page, cleared_put}
+use Rattle.paged.proofs.PagePuts.{page_fits, no_page, kept_page, cleared_put}
 use Rattle.paged.proofs.pages.Pages.clear_blank.Goals as goal
 
 either : (t : Bool) (x y : List ℕ) → (t ≡ true → x ≡ y) → x ≡ (if t then y else x)

@@ -1,15 +1,10 @@
 use Rattle.std.proofs.Common.{◌≡◌, ℕ, ◌+◌, ◌-◌, ◌≤◌, List, length, take, drop, refl, ◌∙◌, arith}
 use Rattle.store.specs.Images.{image_with}
 use Rattle.paged.specs.Pages.{all_pages, page_of, places, bytes_before, blank}
-use Rattle.paged.specs.State.{all_of}
-use Rattle.paged.proofs.PageLaws.{length_all}
-use Rattle.paged.proofs.Ranges.{length_chunk, ready_all, ready_more}
-use Rattle.paged.proofs.Rest.{width_kept}
-use Rattle.paged.proofs.Turns.{part_here}
+use Rattle.paged.proofs.Ranges.{ready_all, ready_more}
+use Rattle.paged.proofs.UntouchedMemory.{width_kept}
+use Rattle.paged.proofs.PageLoop.{chunk_here}
 use Rattle.paged.proofs.pages.Pages.clear_blanks.Goals as goal
-
-pub loop-i-init : goal.loop-i-init
-loop-i-init c = record { kept = refl; same = refl; ready = λ j some. absurd (omega arith) }
 
 pub loop-i-preserved : goal.loop-i-preserved
 loop-i-preserved c =
@@ -29,7 +24,6 @@ loop-i-preserved c =
     let new : List ℕ = all_pages u.map.now u.pool.now in
     let p = c.of-part.ensures.part in
     let width : places t.map.now ≡ places s.map.now = width_kept c.args.self.now.paging c.loop-i.self.paging inv.kept in
-    let long = length_all t.map.now t.pool.now c.loop-i.self.sound.placed.mapped in
     let fits : offset + length bytes ≤ length mid = omega (arith, c.requires.inside) in
     let step = ready_more mid offset bytes i d m from p fits (omega arith)
     (blank (image_with (page_of mid i) from (take (m - d) (drop d bytes)))) new refl told.pages
@@ -45,9 +39,7 @@ clear_blank-requires c =
     let s = c.args.self.now.paging in
     let bytes : List ℕ = c.args.bytes.now in
     let p = c.of-part.ensures.part in
-    let fits : c.args.offset + length bytes ≤ length (all_of s) = omega (arith, c.requires.inside, length_all s.map.now s.pool.now c.args.self.now.sound.placed.mapped) in
-    let here = part_here s c.loop-i.self.paging c.args.offset (length bytes) c.loop-i.i _ _ _ c.loop-i.invariant.kept c.requires.inside p (omega arith) in
-    record { here = (here.0, omega (arith, here.1, length_chunk (all_of s) c.args.offset bytes c.of-part.result.start c.of-part.result.end p.order p.most fits)) }
+    record { here = chunk_here s c.loop-i.self.paging c.args.offset _ bytes c.loop-i.i _ _ _ refl (omega arith) p c.loop-i.invariant.kept c.requires.inside (omega arith) }
 
 pub returns : goal.returns
 returns c =
@@ -57,7 +49,6 @@ returns c =
     let inv = c.loop-i.invariant in
     let mid : List ℕ = all_pages t.map.now t.pool.now in
     let width = width_kept c.args.self.now.paging c.loop-i.self.paging inv.kept in
-    let long = length_all t.map.now t.pool.now c.loop-i.self.sound.placed.mapped in
     let fits : offset + length bytes ≤ length mid = omega (arith, c.requires.inside) in
     let end : bytes_before offset (length bytes) c.loop-i.i ≡ length bytes = omega (arith, c.loop-i-test.false, c.div_ceil-i-end.ensures) in
     record {

@@ -2,16 +2,16 @@ use Rattle.std.proofs.Common.{◌≡◌, ℕ, ◌+◌, ◌*◌, ◌<◌, List, g
 use Rattle.std.proofs.lemmas.Bool.{eq-eqb}
 use Rattle.paged.specs.declared.pages.TheConstants.{POOL}
 use Rattle.paged.specs.Pages.{all_pages, places, SoundPages}
-use Rattle.paged.proofs.PageBytes.{all_clear, pages_none, same_set}
+use Rattle.paged.proofs.PageLaws.{length_all, pages_none}
 use Rattle.paged.proofs.FilledLaws.{filled_zero, page_blank}
-use Rattle.paged.proofs.Whole.{valid_of}
-use Rattle.paged.proofs.Rest.{rest_kept}
+use Rattle.paged.proofs.ImagePages.{valid_of}
+use Rattle.paged.proofs.UntouchedMemory.{same_set}
 use Rattle.paged.proofs.pages.Pages.empty.Goals as goal
 
 -- a map of zeros with every page spare
 blank_sound : (table pool spare : List ℕ) → ((i : ℕ) → i < places table → get_or table i 0 ≡ 0) → ((k : ℕ) → k < POOL → get_or spare k 0 ≡ k) → SoundPages table pool spare 0
 blank_sound table pool spare clear own =
-    let zeros : (p : ℕ) → get_or (all_pages table pool) p 0 ≡ 0 = λ p. pages_none pool _ p (all_clear table clear) in
+    let zeros : (p : ℕ) → get_or (all_pages table pool) p 0 ≡ 0 = pages_none table pool clear in
     record {
       placed = record {
         mapped = λ i l. omega (arith, clear i l);
@@ -20,6 +20,7 @@ blank_sound table pool spare clear own =
         spare_apart = λ i j h. sym (own i (omega (arith, h.1))) ∙ h.4 ∙ own j (omega (arith, h.3));
         spare_free = λ i j h. omega (arith, clear i h.0, h.3);
       };
+      long = length_all table pool (λ i l. omega (arith, clear i l));
       filled = λ i l. page_blank (all_pages table pool) i (λ r. zeros (256 * i + r)) ∙ sym (eq-eqb (get_or table i 0) 0 (clear i l));
       counted = sym (filled_zero (places table) (all_pages table pool) zeros);
       room = omega arith;
@@ -28,16 +29,11 @@ blank_sound table pool spare clear own =
 pub invariant_of-result : goal.invariant_of-result
 invariant_of-result c = record { sound = blank_sound c.clear_map.new.map c.args.pool.now c.all_spare.result c.clear_map.ensures.clear c.all_spare.ensures }
 
-pub returns : goal.returns
-returns c =
-    let table : List ℕ = c.clear_map.new.map in
-    let pool : List ℕ = c.args.pool.now in
-    let sound = blank_sound table pool c.all_spare.result c.clear_map.ensures.clear c.all_spare.ensures in
-    record {
-      valid = valid_of table pool c.all_spare.result 0 0 sound (omega arith) (λ p h. pages_none pool _ p (all_clear table c.clear_map.ensures.clear));
-      same = same_set table c.args.map.now pool pool c.clear_map.ensures.len refl;
-      map_lender = refl;
-      pool_lender = refl;
-      pool = refl;
-      past = rest_kept _ _ c.args.map.now pool table pool (record { map_length = c.clear_map.ensures.len; pool_length = refl; map_rest = c.clear_map.ensures.rest; pool_rest = refl });
-    }
+pub returns-clause-valid : goal.returns-clause-valid
+returns-clause-valid c =
+    let clear = c.clear_map.ensures.clear in
+    let sound = blank_sound c.clear_map.new.map c.args.pool.now c.all_spare.result clear c.all_spare.ensures in
+    valid_of c.clear_map.new.map c.args.pool.now c.all_spare.result 0 0 sound (omega arith) (λ p h. pages_none c.clear_map.new.map c.args.pool.now clear p)
+
+pub returns-clause-same : goal.returns-clause-same
+returns-clause-same c = same_set c.clear_map.new.map c.args.map.now c.args.pool.now c.args.pool.now c.clear_map.ensures.len refl

@@ -1,12 +1,12 @@
-use Rattle.std.proofs.Common.{◌≡◌, ℕ, ◌+◌, ◌<◌, ◌≤◌, if◌then◌else◌, List, length, take, refl, ap, ◌∙◌, arith, eqb, drop, ◌-◌}
+use Rattle.std.proofs.Common.{◌≡◌, ℕ, ◌+◌, ◌<◌, ◌≤◌, if◌then◌else◌, List, length, take, ap, ◌∙◌, arith, eqb, drop, ◌-◌}
 use Rattle.std.proofs.lemmas.List.{take_all}
 use Rattle.store.specs.Images.{image_with}
 use Rattle.paged.specs.Pages.{all_pages, places, bytes_before, filled_from, PartOf}
 use Rattle.paged.proofs.FilledLaws.{filled_small, weight_small}
 use Rattle.std.specs.Int.{from_bool}
-use Rattle.paged.proofs.Puts.{weight_filled, weight_place}
+use Rattle.paged.proofs.PagePuts.{weight_filled, weight_place}
 use Rattle.paged.proofs.Ranges.{chunk_count}
-use Rattle.paged.proofs.Turns.{none_put}
+use Rattle.paged.proofs.PageLoop.{none_put}
 use Rattle.paged.specs.State.{places_of, all_of, value_of, blank_after, filled_after, SoundIn, InPages}
 use Rattle.paged.specs.declared.pages.paging.Paging.{Paging}
 use Rattle.paged.proofs.pages.Pages.filled_with.Goals as goal
@@ -14,7 +14,7 @@ use Rattle.paged.proofs.pages.Pages.filled_with.Goals as goal
 pub loop-i-init : goal.loop-i-init
 loop-i-init c =
     let s = c.args.self.now.paging in
-    c.args.self.now.sound.counted ∙ ap (filled_from (places_of s)) (none_put (all_of s) c.args.offset (length c.args.bytes.now) (λ n. take n c.args.bytes.now) refl)
+    c.args.self.now.sound.counted ∙ ap (filled_from (places_of s)) (none_put (all_of s) c.args.offset (length c.args.bytes.now) c.args.bytes.now)
 
 pub returns : goal.returns
 returns c =

@@ -2,7 +2,6 @@ use Rattle.std.proofs.Common.{◌≡◌, ℕ, ◌+◌, ◌*◌, List, length, ta
 use lib.ListN.{length-replicate}
 use Rattle.store.specs.Images.{image_with}
 use Rattle.paged.specs.Pages.{all_pages, places}
-use Rattle.paged.proofs.PageLaws.{length_all}
 use Rattle.paged.proofs.Ranges.{zeros_part, zeros_blank, zeros_fill_less}
 use Rattle.paged.proofs.pages.Pages.put_zeros.Goals as goal
 
@@ -26,8 +25,8 @@ put-requires c =
     let count : ℕ = c.args.count in
     let zs : List ℕ = take count (replicate {A = ℕ} 256 0) in
     let lz : length zs ≡ count = omega (arith, length-take count (replicate {A = ℕ} 256 0), length-replicate {A = ℕ} 256 0, c.requires.here.1) in
-    let long = length_all s.map.now s.pool.now c.args.self.now.sound.placed.mapped in
-    let less = zeros_fill_less (places s.map.now) (all_pages s.map.now s.pool.now) (256 * i + from) zs (zeros_blank count) (omega (arith, c.requires.here)) long in
+    let long = c.args.self.now.sound.long in
+    let less = zeros_fill_less (places s.map.now) (all_pages s.map.now s.pool.now) (256 * i + from) zs (zeros_blank count (omega (arith, c.requires.here.1))) (omega (arith, c.requires.here)) long in
     record {
       here = (c.requires.here.0, omega (arith, c.requires.here.1));
       room = omega (arith, c.args.self.now.sound.counted, c.args.self.now.sound.room);

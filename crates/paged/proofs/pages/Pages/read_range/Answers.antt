@@ -1,14 +1,9 @@
-use Rattle.std.proofs.Common.{◌≡◌, ℕ, ◌+◌, ◌-◌, ◌≤◌, List, length, get_or, take, drop, refl, ap, ◌∙◌, subst, arith, length-drop, length-take}
+use Rattle.std.proofs.Common.{◌≡◌, ℕ, ◌+◌, ◌-◌, ◌≤◌, List, length, get_or, take, drop, ap, ◌∙◌, subst, arith, length-drop, length-take}
 use Rattle.store.specs.Images.{part}
 use Rattle.store.proofs.ImageLaws.{length_overwritten, put_between}
 use Rattle.paged.specs.Pages.{all_pages, bytes_before, PartOf}
-use Rattle.paged.proofs.PageLaws.{length_all}
-use Rattle.paged.proofs.PageBytes.{read_whole}
-use Rattle.paged.proofs.Reading.{read_more}
+use Rattle.paged.proofs.PageReads.{read_more, read_whole}
 use Rattle.paged.proofs.pages.Pages.read_range.Goals as goal
-
-pub loop-i-init : goal.loop-i-init
-loop-i-init c = record { long = refl; read = λ k h. absurd (omega arith) }
 
 pub loop-i-preserved : goal.loop-i-preserved
 loop-i-preserved c =
@@ -29,7 +24,7 @@ loop-i-preserved c =
     let p = subst (λ n. PartOf offset n i d m from) same told.part in
     let order = p.order in
     let most : m ≤ length buf = omega (arith, p.most) in
-    let fits : offset + m ≤ length all = omega (arith, length_all s.map.now s.pool.now c.args.self.now.sound.placed.mapped, c.requires.inside) in
+    let fits : offset + m ≤ length all = omega (arith, c.requires.inside) in
     let lb : length (take (m - d) (drop d buf)) ≡ m - d = simp (length-take, length-drop) (omega arith) in
     let new : List ℕ = part all (offset + d) (m - d) in
     let ln : length new ≡ m - d = simp (length-take, length-drop) (omega arith) in
@@ -47,5 +42,5 @@ returns c =
     let count : ℕ = length c.args.buf.now in
     let end : bytes_before c.args.offset count c.loop-i.i ≡ count = omega (arith, c.loop-i-test.false, c.div_ceil-i-end.ensures) in
     read_whole (all_pages s.map.now s.pool.now) c.loop-i.buf c.args.offset count inv.long
-    (omega (arith, length_all s.map.now s.pool.now c.args.self.now.sound.placed.mapped, c.requires.inside))
+    (omega (arith, c.requires.inside))
     (λ k h. inv.read k (omega (arith, end)))

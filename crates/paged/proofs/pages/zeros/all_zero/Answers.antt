@@ -1,16 +1,13 @@
-use Rattle.std.proofs.Common.{rules, tests, ◌≡◌, ℕ, zero, suc, ◌*◌, ◌/◌, Bool, true, false, ◌&&◌, List, length, take, drop, sym, refl, ap, ◌∙◌, arith}
+use Rattle.std.proofs.Common.{rules, tests, eqb, ◌≡◌, ℕ, zero, suc, ◌*◌, ◌/◌, ◌&&◌, List, length, take, drop, sym, refl, ap, ◌∙◌, arith}
+use Rattle.std.proofs.Math.Bool.{and_assoc}
 use Rattle.std.specs.List.{list_all}
 use Rattle.std.specs.Simd.{first_chunks}
 use Rattle.std.proofs.lemmas.List.{take-append-drop, drop-drop}
+use Rattle.std.proofs.lemmas.List.Folds.{list_all-append}
 use Rattle.std.proofs.lemmas.Iterator.{YieldsList-from_slice}
 use Rattle.std.proofs.lemmas.Iterator.Search.{all_from_yields_List}
 use Rattle.paged.specs.Pages.{blank}
-use Rattle.paged.proofs.Puts.{blank_append}
 use Rattle.paged.proofs.pages.zeros.all_zero.Goals as goal
-
-all_but : (t u v w : Bool) → (u && v) ≡ w → ((t && u) && v) ≡ (t && w)
-all_but true u v w e = e
-all_but false u v w e = refl
 
 -- the first k blocks, and what comes after them
 in_blocks : (k : ℕ) (xs : List ℕ) → (list_all blank (first_chunks 32 k xs) && blank (drop (k * 32) xs)) ≡ blank xs
@@ -18,8 +15,8 @@ in_blocks zero xs = refl
 in_blocks (suc k) xs =
     let on : drop (suc k * 32) xs ≡ drop (k * 32) (drop 32 xs) = sym (drop-drop (k * 32) 32 xs ∙ ap (λ n. drop n xs) (omega arith)) in
     ap (λ ys. list_all blank (first_chunks 32 (suc k) xs) && blank ys) on
-    ∙ all_but (blank (take 32 xs)) (list_all blank (first_chunks 32 k (drop 32 xs))) (blank (drop (k * 32) (drop 32 xs))) (blank (drop 32 xs)) (in_blocks k (drop 32 xs))
-    ∙ sym (blank_append (take 32 xs) (drop 32 xs)) ∙ ap blank (take-append-drop 32 xs)
+    ∙ and_assoc (blank (take 32 xs)) (list_all blank (first_chunks 32 k (drop 32 xs))) (blank (drop (k * 32) (drop 32 xs))) ∙ ap (λ t. blank (take 32 xs) && t) (in_blocks k (drop 32 xs))
+    ∙ sym (list_all-append (λ b. eqb b 0) (take 32 xs) (drop 32 xs)) ∙ ap blank (take-append-drop 32 xs)
 
 -- the answer of the first blocks
 pub returns-then-all : goal.returns-then-all

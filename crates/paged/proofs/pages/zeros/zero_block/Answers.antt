@@ -1,11 +1,11 @@
 use Rattle.std.proofs.Common.{rules, tests, ◌≡◌, ℕ, Bool, ◌&&◌, nat_eq, List, [], ◌∷◌, sym, ap, ◌∙◌, ⊎_elim, arith}
+use Rattle.std.proofs.Math.Bool.{and-true}
 use lib.Bits.{bit_or, or_add_and, and_le_r}
 use Rattle.std.specs.List.{fold}
 use Rattle.std.proofs.lemmas.Bool.{cases_eq, ne_eqb, and_left}
 use Rattle.std.proofs.lemmas.Iterator.{YieldsList-from_slice}
 use Rattle.std.proofs.lemmas.Iterator.Consumers.{fold_from_yields_List}
 use Rattle.paged.specs.Pages.{blank}
-use Rattle.paged.proofs.Puts.{and_true}
 use Rattle.paged.proofs.pages.zeros.zero_block.Goals as goal
 
 -- no bit is set in either exactly if none is set in both together
@@ -20,7 +20,7 @@ or_none a b t =
 
 -- the bits of all bytes together
 any_bit : (bits : ℕ) (xs : List ℕ) → nat_eq (fold bit_or bits xs) 0 ≡ (nat_eq bits 0 && blank xs)
-any_bit bits [] = sym (and_true (nat_eq bits 0))
+any_bit bits [] = sym (and-true (nat_eq bits 0))
 any_bit bits (x ∷ xs) = any_bit (bit_or bits x) xs ∙ or_none bits x (blank xs)
 
 pub returns : goal.returns

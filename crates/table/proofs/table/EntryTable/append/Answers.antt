@@ -4,7 +4,7 @@ use Rattle.table.specs.Entries.{row_of}
 use Rattle.table.specs.Tables.{append_row}
 use Rattle.table.specs.Names.{name_of}
 use Rattle.table.specs.Tables.{Row, Table, LaidOut}
-use Rattle.table.proofs.Steps.{appended}
+use Rattle.table.proofs.TableSteps.{appended}
 use Rattle.table.proofs.table.EntryTable.append.Goals as goal
 
 pub invariant_of-self : goal.invariant_of-self

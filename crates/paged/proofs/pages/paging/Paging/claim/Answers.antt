@@ -5,10 +5,10 @@ use Rattle.store.specs.Images.{image_with}
 use Rattle.store.proofs.ImageLaws.{length_overwritten, put_between}
 use Rattle.std.proofs.lemmas.Bool.{eq-eqb, ne_eqb}
 use Rattle.paged.specs.Pages.{all_pages, pool_pages, places}
-use Rattle.paged.proofs.FilledLaws.{weight_one, weight_none}
-use Rattle.paged.proofs.Puts.{put_count, sound_put}
-use Rattle.paged.proofs.Steps.{spare_within, placed_claim, placed_over, claimed, stored, kept_step, kept_pool}
-use Rattle.paged.proofs.Rest.{rest_kept, kept_on, Kept}
+use Rattle.paged.proofs.FilledLaws.{weight}
+use Rattle.paged.proofs.PagePuts.{put_count, sound_put}
+use Rattle.paged.proofs.PageSteps.{spare_within, placed_claim, placed_over, claimed, stored, kept_set, kept_pool}
+use Rattle.paged.proofs.UntouchedMemory.{rest_kept, kept_on, Kept}
 use Rattle.paged.proofs.pages.paging.Paging.claim.Goals as goal
 
 pub returns : goal.returns
@@ -41,21 +41,21 @@ returns c =
     let value : get_or map i 0 ≡ k + 1 = get_or-set_same table i (k + 1) 0 (omega arith) in
     let placed = placed_claim table pool spare used i c.requires.sound.placed here none c.requires.room blanked same in
     let low : k < pool_pages blanked = omega (arith, same) in
-    let kept = kept_on table pool map blanked map (image_with blanked (256 * k + from) bytes) (kept_step table pool i (k + 1) k 0 zeros here within (omega arith)) (kept_pool map blanked k from bytes low inside) in
+    let kept = kept_on table pool map pool map (image_with blanked (256 * k + from) bytes) (kept_set table pool i (k + 1) here) (kept_on map pool map blanked map _ (kept_pool map pool k 0 zeros within (omega arith)) (kept_pool map blanked k from bytes low inside)) in
     let new : length (image_with blanked (256 * k + from) bytes) ≡ length blanked = length_overwritten blanked (256 * k + from) bytes (omega (arith, same)) in
     let kept' = subst (Kept table pool map) (sym put) kept in
     let pages = ap (all_pages map) put
     ∙ stored map blanked i k from bytes placed.mapped placed.apart (omega (arith, width)) (omega arith) inside
     ∙ ap (λ b. image_with b (256 * i + from) bytes) (claimed table pool spare used i c.requires.sound.placed here none c.requires.room) in
     let some : eqb (get_or map i 0) 0 ≡ false = ne_eqb (get_or map i 0) 0 (λ e. omega (arith, value)) in
-    let had-none = weight_none _ (eq-eqb (get_or table i 0) 0 none) in
+    let had-none = weight (eq-eqb (get_or table i 0) 0 none) in
     let count = put_count table pool spare used i from bytes c.requires.sound here inside in
     record {
       sound = sound_put table pool spare used i from bytes c.requires.sound here inside map _ spare (used + 1)
           (placed_over map blanked _ spare (used + 1) (ap length put ∙ new) placed) kept' pages
           (λ j ne. get_or-set_other table i j (k + 1) 0 ne)
           (c.requires.filled ∙ sym some)
-          (omega (arith, had-none, weight_one _ some))
-          (omega (arith, had-none, weight_one _ c.requires.filled));
+          (omega (arith, had-none, weight some))
+          (omega (arith, had-none, weight c.requires.filled));
       pages = record { kept = rest_kept s.map.ghost_name s.pool.ghost_name table pool map _ kept'; pages = pages };
     }

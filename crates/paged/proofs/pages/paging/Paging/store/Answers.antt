@@ -3,10 +3,10 @@ use Rattle.std.proofs.lemmas.Bool.{eq-eqb, ne_eqb}
 use Rattle.store.specs.Images.{image_with}
 use Rattle.store.proofs.ImageLaws.{length_overwritten, put_between}
 use Rattle.paged.specs.Pages.{all_pages, page_of, blank, places, pool_pages, filled_from, SoundPages}
-use Rattle.paged.proofs.FilledLaws.{weight_one, weight_none}
-use Rattle.paged.proofs.Steps.{stored, placed_over, kept_pool}
-use Rattle.paged.proofs.Puts.{put_count, sound_put}
-use Rattle.paged.proofs.Rest.{rest_kept, Kept}
+use Rattle.paged.proofs.FilledLaws.{weight}
+use Rattle.paged.proofs.PageSteps.{stored, placed_over, kept_pool}
+use Rattle.paged.proofs.PagePuts.{put_count, sound_put}
+use Rattle.paged.proofs.UntouchedMemory.{rest_kept, Kept}
 use Rattle.paged.proofs.pages.paging.Paging.store.Goals as goal
 
 pub claim-requires : goal.claim-requires
@@ -19,7 +19,7 @@ claim-requires c =
       here = c.requires.here;
       none = none;
       filled = c.requires.filled;
-      room = omega (arith, weight_none _ (eq-eqb (get_or s.map.now i 0) 0 none), weight_one _ (c.requires.filled), c.requires.room);
+      room = omega (arith, weight (eq-eqb (get_or s.map.now i 0) 0 none), weight (c.requires.filled), c.requires.room);
       sound = c.requires.sound;
     }
 
