@@ -1,4 +1,4 @@
-use crate::paths::{ApplyPaths, JoinPaths};
+use file_calls::{ApplyPaths, JoinPaths};
 
 /// What the words of the command line ask for.
 #[derive(Drop)]

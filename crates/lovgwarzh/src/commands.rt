@@ -1,19 +1,15 @@
 // The commands, each on the files that its words name. What a command makes is made in memory
 // first, and written only once nothing can be refused any more.
-use crate::bytes::{ApplyBytes, JoinBytes, list_text};
 use crate::failure::{About, Failure};
 use crate::files::{read_file, write_file};
-use crate::names::{name_of, name_text};
-use crate::paths::{ApplyPaths, JoinPaths};
+use file_calls::{ApplyBytes, ApplyPaths, JoinBytes, JoinPaths, list_text, name_of, name_text};
 use overlay::Side;
+use std::io;
 use std::io::Write;
 use stream::{RunBuffer, Stream};
 
-/// Checks a stream, and prints its names, the image's size and how many data records it has.
-pub fn check_file(rt: &HostRuntime, path: &str) -> Result<(), Failure> {
-    let bytes = read_file(rt, path)?;
-    let mut buffer = RunBuffer::new();
-    let stream = Stream::read(&bytes, Side::Later, &mut buffer).about(rt.alloc(), path)?;
+// Prints what a checked stream says.
+fn print_stream(rt: &HostRuntime, path: &str, stream: Stream) -> io::Result<()> {
     let from = name_text(stream.from);
     let to = name_text(stream.to);
     let size = stream.sheet.size;
@@ -22,7 +18,15 @@ pub fn check_file(rt: &HostRuntime, path: &str) -> Result<(), Failure> {
     println!(rt; "from snapshot: {from}")?;
     println!(rt; "to snapshot: {to}")?;
     println!(rt; "image size: {size} bytes")?;
-    println!(rt; "data records: {count}")?;
+    println!(rt; "data records: {count}")
+}
+
+/// Checks a stream, and prints its names, the image's size and how many data records it has.
+pub fn check_file(rt: &HostRuntime, path: &str) -> Result<(), Failure> {
+    let bytes = read_file(rt, path)?;
+    let mut buffer = RunBuffer::new();
+    let stream = Stream::read(&bytes, Side::Later, &mut buffer).about(rt.alloc(), path)?;
+    print_stream(rt, path, stream)?;
     Ok(())
 }
 
@@ -57,6 +61,12 @@ pub fn join_files(rt: &HostRuntime, paths: JoinPaths, out: &str) -> Result<(), F
     Ok(())
 }
 
+// Prints the snapshot that an image is at, and its size.
+fn print_image(rt: &HostRuntime, path: &str, name: &[u8], size: usize) -> io::Result<()> {
+    let name = name_text(name);
+    println!(rt; "{path}: now at snapshot {name}, {size} bytes")
+}
+
 /// Applies a stream to an image in a file, whose snapshot has the name that the word stands for.
 /// The image is read whole, and written only after the last record, so that a refusal leaves the
 /// file as it was.
@@ -73,9 +83,6 @@ pub fn apply_to_file(rt: &HostRuntime, paths: ApplyPaths, word: &str) -> Result<
         |fault| String::from_str(heap, paths.refused(fault)),
     ))?;
     write_file(rt, paths.image, &image)?;
-    let path = paths.image;
-    let to = name_text(to);
-    let size = image.len();
-    println!(rt; "{path}: now at snapshot {to}, {size} bytes")?;
+    print_image(rt, paths.image, to, image.len())?;
     Ok(())
 }

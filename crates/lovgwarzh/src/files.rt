@@ -1,12 +1,10 @@
 ghost use Rattle.std.specs.Prelude.{◌≤◌, IfOk, length};
 
 use crate::failure::{About, Failure};
+use file_calls::MOST_BYTES;
 use std::fs::File;
 use std::io::{ErrorKind, Read, Write};
 use std::{fs, io};
-
-/// The most bytes that are held in memory for one file.
-pub const MOST_BYTES: u64 = 1 << 32;
 
 /// The bytes of a file. One byte more than the most is asked for, so that a longer file, or a
 /// device without an end, is an error and is not cut.

@@ -9,13 +9,10 @@ use std::process::ExitCode;
 use std::{env, io};
 use tour::show_tour;
 
-mod bytes;
 mod command;
 mod commands;
 mod failure;
 mod files;
-mod names;
-mod paths;
 mod samples;
 mod series;
 mod tour;

@@ -133,6 +133,24 @@ fn fill_image<S: Store>(image: &mut S) -> Result<(), Fault> {
     image.write(256, b"p")
 }
 
+// Prints the outcome of each call.
+fn show_steps(
+    rt: &HostRuntime,
+    steps: &[Step],
+    answers: &[Result<usize, Fault>],
+    buffer: &[u8],
+) -> anyhow::Result<()> {
+    for (step, answer) in steps.iter().zip(answers) {
+        show_step(rt, step, *answer, buffer)?;
+    }
+    Ok(())
+}
+
+// The calls that the steps ask for.
+fn requests_of<'a>(steps: &[Step<'a>; 14]) -> [Request<'a>; 14] {
+    steps.map(|step| step.request)
+}
+
 // Plays the series on a base image in a pool of two pages, and prints the outcome of each call.
 fn play_series<S: Store>(
     rt: &HostRuntime,
@@ -142,14 +160,12 @@ fn play_series<S: Store>(
     let mut bytes = [0u8; 512];
     let mut buffer = [0u8; 384];
     let steps = series_on(chain);
-    let calls = steps.map(|step| step.request);
+    let calls = requests_of(&steps);
     let mut answers: [Result<usize, Fault>; 14] = [Ok(0); 14];
     let Ok(shelf) = replay(b"a", base, &mut bytes, &mut buffer, &calls, &mut answers) else {
         return Err(anyhow!("the base name was refused"));
     };
-    for (step, answer) in steps.iter().zip(answers) {
-        show_step(rt, step, answer, &buffer)?;
-    }
+    show_steps(rt, &steps, &answers, &buffer)?;
     Ok(shelf)
 }
 

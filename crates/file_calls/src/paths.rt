@@ -1,6 +1,6 @@
 // Which file a refusal names. The paths are fields, so that no call can take one for another.
 ghost use Rattle.std.specs.Prelude.{◌≡◌, IfOk, string_bytes};
-ghost use Rattle.lovgwarzh.specs.Paths.{apply_path, join_path};
+ghost use Rattle.file_calls.specs.Paths.{apply_path, join_path};
 
 use fault::{Fault, Layer};
 use std::alloc::{AllocError, Global};

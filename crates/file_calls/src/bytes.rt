@@ -1,14 +1,13 @@
 // What the commands make of the bytes of files, in memory. What goes in stands in fields, so that
 // no call can take one stream for another, or a name for a stream.
-ghost use Rattle.std.specs.Prelude.{◌≡◌, ◌^◌, ◌<◌, ◌≤◌, Ok, IfOk, IfErr, length, take};
+ghost use Rattle.std.specs.Prelude.{◌≡◌, ◌^◌, ◌<◌, ◌≤◌, Ok, IfOk, IfErr, length};
 ghost use Rattle.apply.specs.Applies.{StoreOutcome, apply_answer};
 ghost use Rattle.join.specs.Joins.{joined_stream};
 ghost use Rattle.listing.specs.Lists.{stream_text};
 ghost use Rattle.listing.specs.Text.{listing};
-ghost use Rattle.lovgwarzh.specs.Calls.{memory_room, memory_outcome, grown_outcome, file_outcome, to_name_of, RefusedAs, MemoryApplied, Applied};
+ghost use Rattle.file_calls.specs.Calls.{memory_room, memory_outcome, grown_outcome, file_outcome, to_name_of, RefusedAs, MemoryApplied, Applied};
 
-use crate::failure::CallError;
-use crate::files::MOST_BYTES;
+use crate::call_error::CallError;
 use apply::{apply_stream, read_from};
 use fault::Fault;
 use join::{join, joined_length};
@@ -17,6 +16,9 @@ use overlay::{RangeMark, Run, Side};
 use std::alloc::Global;
 use store::{FlatImage, LIMIT, Store};
 use stream::{MOST_RECORDS, RunBuffer, Stream, find_ranges};
+
+/// The most bytes that are held in memory for one file.
+pub const MOST_BYTES: u64 = 1 << 32;
 
 // The text of ranges.
 fn ranges_text(heap: Global, ranges: &[Run<RangeMark>]) -> Result<Vec<u8>, CallError>

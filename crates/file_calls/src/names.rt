@@ -1,6 +1,6 @@
 ghost use Rattle.std.specs.Prelude.{◌≡◌, true};
 ghost use Rattle.stream.specs.Steps.{every_printable};
-ghost use Rattle.lovgwarzh.specs.Names.{name_text, name_of_word};
+ghost use Rattle.file_calls.specs.Names.{name_text, name_of_word};
 
 /// A snapshot's name as text, and `-` for the empty one, which is the name before the first
 /// snapshot. The names of a stream are printable.

@@ -7,9 +7,9 @@ use Rattle.store.specs.Memory.{flat_set}
 use Rattle.store.specs.Stores.{Outcome, done}
 use Rattle.stream.specs.Difference.{Difference, meaning}
 use Rattle.apply.specs.Applies.{apply_answer}
-use Rattle.lovgwarzh.specs.declared.files.TheConstants.{MOST_BYTES}
-use Rattle.lovgwarzh.specs.declared.failure.CallError.{CallError}
-use Rattle.lovgwarzh.specs.declared.failure.CallError.TheVariants.{Refused, Memory}
+use Rattle.file_calls.specs.declared.bytes.TheConstants.{MOST_BYTES}
+use Rattle.file_calls.specs.declared.call_error.CallError.{CallError}
+use Rattle.file_calls.specs.declared.call_error.CallError.TheVariants.{Refused, Memory}
 
 -- a call that ended without its result: the definition has this fault, or memory ran out and
 -- nothing is said

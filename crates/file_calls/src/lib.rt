@@ -1,0 +1,13 @@
+//! What a program makes of the bytes of files by the calls of the library: lists, joins and applies
+//! in memory, the names that its words stand for, and the file that a refusal is about.
+#![tactic(auto)]
+
+mod bytes;
+mod call_error;
+mod names;
+mod paths;
+
+pub use bytes::{ApplyBytes, JoinBytes, MOST_BYTES, list_text};
+pub use call_error::CallError;
+pub use names::{name_of, name_text};
+pub use paths::{ApplyPaths, JoinPaths};
