@@ -1,10 +1,11 @@
 -- The text of ranges: a first line, and a line for each range. Rests on overlay's runs and range
 -- marks, and on std's decimal numbers.
-use Rattle.std.specs.Prelude.{ℕ, List, [], ◌∷◌, ◌++◌, codes, decimal}
+use Rattle.std.specs.Prelude.{ℕ, ◌+◌, ◌*◌, List, [], ◌∷◌, ◌++◌, length, codes, decimal}
 use Rattle.std.specs.List.{flat_map}
 use Rattle.overlay.specs.declared.runs.Run.{Run}
 use Rattle.overlay.specs.declared.ranges.RangeMark.{RangeMark}
 use Rattle.overlay.specs.declared.ranges.RangeMark.TheVariants.{Zeroed, Written}
+use Rattle.listing.specs.declared.text.TheConstants.{LONGEST_LINE}
 
 -- the first line
 abbrev pub heading : List ℕ
@@ -22,3 +23,7 @@ line r = decimal r.offset ++ (32 ∷ (decimal r.length ++ line_end r.mark))
 -- the whole text
 unfoldable pub listing : List (Run RangeMark) → List ℕ
 listing rs = heading ++ flat_map line rs
+
+-- the most bytes that the text of n ranges takes
+abbrev pub most_bytes : ℕ → ℕ
+most_bytes n = length heading + LONGEST_LINE * n

@@ -1,9 +1,9 @@
-ghost use Rattle.std.specs.Prelude.{◌≡◌, ◌+◌, ◌≤◌, length, decimal};
+ghost use Rattle.std.specs.Prelude.{◌≡◌, ◌+◌, ◌≤◌, length, decimal, min};
 ghost use Rattle.fault.specs.declared.layer.Layer.TheVariants.{Stream};
 ghost use Rattle.stream.specs.Buffers.{written_answer, written_buffer};
 ghost use Rattle.stream.specs.declared.limits.TheConstants.{MOST_RECORDS};
 ghost use Rattle.stream.specs.Bytes.{buffer_with};
-ghost use Rattle.listing.specs.Text.{line_end, line, listing};
+ghost use Rattle.listing.specs.Text.{line_end, line, listing, most_bytes};
 
 use fault::{Cause, Fault};
 use itoa::write_digits;
@@ -16,11 +16,17 @@ const HEADING: &[u8] = b"offset length kind\n";
 // The end of each line: a space, a kind of four letters, and a line feed.
 const LINE_END: usize = 6;
 
+// The most digits that a number of 64 bits has.
+const MOST_DIGITS: usize = 20;
+
+// The most bytes that a line takes: two numbers, a space, and the end of the line.
+const LONGEST_LINE: usize = MOST_DIGITS + 1 + MOST_DIGITS + LINE_END;
+
 // The number of digits of a number in decimal.
 #[tactic(auto, using(crate::proofs::Digits::length_decimal, itoa::proofs::Decimal::length_one))]
 fn digits(n: u64) -> usize
     ensures exact { result ≡ length (decimal n) }
-    ensures few { result ≤ 20 }
+    ensures few { result ≤ MOST_DIGITS }
 {
     match n.checked_ilog10() {
         None => 1,
@@ -28,10 +34,12 @@ fn digits(n: u64) -> usize
     }
 }
 
-// Writes a number into the first bytes, and returns how many it took.
+// Writes a number into the first bytes, and returns how many it took. There is room for it, or for
+// any number.
 fn put_number(tail: &mut [u8], n: u64) -> usize
-    requires { length (decimal n) ≤ length tail.old }
+    requires { min (length (decimal n)) MOST_DIGITS ≤ length tail.old }
     ensures taken { result ≡ length (decimal n) }
+    ensures few { result ≤ MOST_DIGITS }
     ensures buffer { tail.new ≡ buffer_with tail.old 0 (decimal n) }
 {
     let count = digits(n);
@@ -53,15 +61,17 @@ fn put_kind(tail: &mut [u8], mark: RangeMark)
 // The length of a range's line: two numbers, a space, and the end of the line.
 fn line_length(run: Run<RangeMark>) -> usize
     ensures exact { result ≡ length (line run) }
-    ensures short { result ≤ 47 }
+    ensures short { result ≤ LONGEST_LINE }
 {
     digits(run.offset) + 1 + digits(run.length) + LINE_END
 }
 
-// Writes a range's line into the first bytes, and returns how many it took.
+// Writes a range's line into the first bytes, and returns how many it took. There is room for it,
+// or for any line.
 fn put_line(tail: &mut [u8], run: Run<RangeMark>) -> usize
-    requires { length (line run) ≤ length tail.old }
+    requires { min (length (line run)) LONGEST_LINE ≤ length tail.old }
     ensures taken { result ≡ length (line run) }
+    ensures short { result ≤ LONGEST_LINE }
     ensures buffer { tail.new ≡ buffer_with tail.old 0 (line run) }
 {
     let space = put_number(tail, run.offset);
@@ -84,16 +94,19 @@ pub fn text_length(ranges: &[Run<RangeMark>]) -> usize
     total
 }
 
-// Writes the text into the first bytes of a buffer that has room for it.
-fn put_text(out: &mut [u8], ranges: &[Run<RangeMark>])
-    requires { length (listing ranges.now) ≤ length out.old }
-    ensures { out.new ≡ buffer_with out.old 0 (listing ranges.now) }
+// Writes the text into the first bytes of a buffer that has room for it, or for any text of as many
+// ranges, and returns its length.
+fn put_text(out: &mut [u8], ranges: &[Run<RangeMark>]) -> usize
+    requires { min (length (listing ranges.now)) (most_bytes (length ranges.now)) ≤ length out.old }
+    ensures taken { result ≡ length (listing ranges.now) }
+    ensures buffer { out.new ≡ buffer_with out.old 0 (listing ranges.now) }
 {
     put_bytes(out, HEADING);
     let mut at = HEADING.len();
     for run in ranges {
         at += put_line(&mut out[at..], *run);
     }
+    at
 }
 
 /// Writes the text of ranges into the first bytes of a buffer, and returns its length. Refused
@@ -103,10 +116,12 @@ pub fn write_text(ranges: &[Run<RangeMark>], out: &mut [u8]) -> Result<usize, Fa
     ensures result { result ≡ written_answer Stream out.old (listing ranges.now) }
     ensures buffer { out.new ≡ written_buffer out.old (listing ranges.now) }
 {
-    let needed = text_length(ranges);
-    if out.len() < needed {
-        return Err(Fault::new(Cause::ShortBuffer, needed as u64));
+    // Only a buffer that may be too short needs the length before the text is written.
+    if out.len() < HEADING.len() + LONGEST_LINE * ranges.len() {
+        let needed = text_length(ranges);
+        if out.len() < needed {
+            return Err(Fault::new(Cause::ShortBuffer, needed as u64));
+        }
     }
-    put_text(out, ranges);
-    Ok(needed)
+    Ok(put_text(out, ranges))
 }

@@ -1,4 +1,4 @@
-ghost use Rattle.std.specs.Prelude.{◌≡◌, ◌+◌, ◌<◌, ◌≤◌, ⊤, MatchOption, length};
+ghost use Rattle.std.specs.Prelude.{◌≡◌, ◌+◌, ◌<◌, ⊤, MatchOption, length};
 ghost use Rattle.overlay.specs.Runs.{overlay_state_at, Rising, rising_prop};
 ghost use Rattle.overlay.specs.Walks.{runs_left, Left, Ahead, FirstPiece, Even, edges};
 

@@ -1,7 +1,7 @@
-ghost use Rattle.std.specs.Prelude.{◌≡◌, ◌+◌, ◌*◌, ◌<◌, ◌≤◌, if◌then◌else◌};
+ghost use Rattle.std.specs.Prelude.{◌≡◌, ◌+◌, ◌*◌, ◌<◌, if◌then◌else◌};
 ghost use Rattle.std.specs.Prelude.{length, replicate, nat_le};
 ghost use Rattle.store.specs.Images.{part, image_with};
-ghost use Rattle.paged.specs.Pages.{places, pages_met, paged_set, paged_rest, Valid};
+ghost use Rattle.paged.specs.Pages.{pages_met, paged_set, paged_rest, Valid};
 ghost use Rattle.paged.specs.State.{places_of, pool_of, all_of, blank_after, filled_after};
 ghost use Rattle.paged.specs.State.{paging_rest, SoundIn, KeptBy, Becomes, PutAt, InPages, InPage};
 ghost use Rattle.paged.specs.State.{SameOncePut, ReadyFor, RoomAfter, RoomAlong};

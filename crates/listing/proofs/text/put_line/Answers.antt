@@ -25,6 +25,7 @@ returns c =
     let both = lent_on xs _ _ front two 0 (n.result + 1) spaced (omega arith) (omega arith) c.put_number.ensures.buffer in
     record {
       taken = omega arith;
+      short = omega arith;
       buffer = lent_on xs _ _ (front ++ two) (line_end run.mark) 0 (n.result + 1 + c.put_number.result) both (omega arith) (omega arith) c.put_kind.ensures
           ∙ ap (buffer_with xs 0) (append_assoc front two (line_end run.mark) ∙ append_assoc one (32 ∷ []) (two ++ line_end run.mark));
     }

@@ -15,7 +15,7 @@ pub loop-run-init : goal.loop-run-init
 loop-run-init c =
     let l = length_listing c.args.ranges.now in
     let k = ap length c.put_bytes.ensures ∙ length_patched c.args.out.now heading 0 (omega arith) in
-    (refl, sym (patched_none c.put_bytes.new.tail 19), omega arith)
+    (refl, sym (patched_none c.put_bytes.new.tail 19), omega arith, omega arith)
 
 pub put_line-at-requires : goal.put_line-at-requires
 put_line-at-requires c =
@@ -24,7 +24,7 @@ put_line-at-requires c =
     let i = c.loop-run.run-index in
     let r = length-flat_map-take line rs i none c.loop-run-test.true in
     let l = ap length v.1 ∙ length_patched c.put_bytes.new.tail (flat_map line (take i rs)) 19 (omega (arith, v.2, r)) in
-    simp (length-take, length-drop) (omega (arith, l, v.0, v.2, r))
+    simp (length-take, length-drop) (omega (arith, l, v.0, v.2, v.3, r))
 
 pub loop-run-preserved : goal.loop-run-preserved
 loop-run-preserved c =
@@ -36,15 +36,26 @@ loop-run-preserved c =
     let k = ap length m ∙ length-append (flat_map line (take i rs)) (line (get_or rs i none)) in
     let a = v.0 in
     let b = v.2 in
+    let most = v.3 in
+    let s = c.put_line-at.ensures.short in
     let t = c.put_line-at.ensures.taken in (
       omega arith,
       lent_on c.put_bytes.new.tail c.loop-run.out _ (flat_map line (take i rs)) (line (get_or rs i none)) 19 c.loop-run.at v.1 a (omega arith) c.put_line-at.ensures.buffer
           ∙ ap (buffer_with c.put_bytes.new.tail 19) (sym m),
       b,
+      omega arith,
     )
 
-pub returns : goal.returns
-returns c =
+pub returns-clause-taken : goal.returns-clause-taken
+returns-clause-taken c =
+    let v = c.loop-run.invariant in
+    let rs = c.args.ranges.now in
+    let e = ap length (ap (flat_map line) (take_all c.loop-run.run-index rs c.loop-run-test.false)) in
+    let l = length_listing rs in
+    omega (arith, v.0, e, l)
+
+pub returns-clause-buffer : goal.returns-clause-buffer
+returns-clause-buffer c =
     let v = c.loop-run.invariant in
     let rs = c.args.ranges.now in
     let l = length_listing rs in
