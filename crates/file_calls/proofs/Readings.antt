@@ -18,7 +18,8 @@ use Rattle.stream.proofs.StreamRefusals.{same_refl}
 use Rattle.stream.proofs.GatheredRecords.{read_meaning}
 use Rattle.apply.specs.Applies.{led_from, apply_read, apply_answer}
 use Rattle.apply.proofs.Readings.{leads}
-use Rattle.file_calls.specs.Calls.{size_after, to_name_of, image_memory, grown_outcome, file_outcome}
+use Rattle.file_calls.specs.Calls.{size_after, to_name_of, image_memory}
+use Rattle.file_calls.specs.Calls.{grown_outcome, file_outcome}
 
 size_set : IsSet ℕ
 size_set = hlevel props

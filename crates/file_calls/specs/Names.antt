@@ -1,4 +1,4 @@
--- How the program writes a snapshot's name, and which name a word stands for. Rests on the
+-- How a program writes a snapshot's name, and which name a word stands for. Rests on the
 -- comparison of bytes.
 use Rattle.std.specs.Prelude.{ℕ, if◌then◌else◌, List, [], ◌∷◌, codes}
 use Rattle.stream.specs.Verdict.{same}

@@ -1,11 +1,12 @@
-// What the commands make of the bytes of files, in memory. What goes in stands in fields, so that
+// What a program makes of the bytes of files, in memory. What goes in stands in fields, so that
 // no call can take one stream for another, or a name for a stream.
 ghost use Rattle.std.specs.Prelude.{◌≡◌, ◌^◌, ◌<◌, ◌≤◌, Ok, IfOk, IfErr, length};
 ghost use Rattle.apply.specs.Applies.{StoreOutcome, apply_answer};
 ghost use Rattle.join.specs.Joins.{joined_stream};
 ghost use Rattle.listing.specs.Lists.{stream_text};
 ghost use Rattle.listing.specs.Text.{listing};
-ghost use Rattle.file_calls.specs.Calls.{memory_room, memory_outcome, grown_outcome, file_outcome, to_name_of, RefusedAs, MemoryApplied, Applied};
+ghost use Rattle.file_calls.specs.Calls.{memory_room, memory_outcome, grown_outcome, file_outcome};
+ghost use Rattle.file_calls.specs.Calls.{to_name_of, RefusedAs, MemoryApplied, Applied};
 
 use crate::call_error::CallError;
 use apply::{apply_stream, read_from};

@@ -6,7 +6,7 @@ use std::alloc::AllocError;
 /// Why a call on the bytes of files ends without its result.
 #[derive(Debug, Drop)]
 pub enum CallError {
-    // a call of the library was refused
+    // the bytes were refused
     Refused(Fault),
     // there is not enough memory
     Memory(AllocError),

@@ -1,5 +1,5 @@
-//! What a program makes of the bytes of files by the calls of the library: lists, joins and applies
-//! in memory, the names that its words stand for, and the file that a refusal is about.
+//! What a program makes of the bytes of files: lists, joins and applies in memory, the names that
+//! words of a command line stand for, and the file that a refusal is about. It touches no file.
 #![tactic(auto)]
 
 mod bytes;

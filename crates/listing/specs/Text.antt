@@ -1,5 +1,5 @@
 -- The text of ranges: a first line, and a line for each range. Rests on overlay's runs and range
--- marks, and on std's decimal numbers.
+-- marks, on std's decimal numbers, and on the code's length of the longest line.
 use Rattle.std.specs.Prelude.{ℕ, ◌+◌, ◌*◌, List, [], ◌∷◌, ◌++◌, length, codes, decimal}
 use Rattle.std.specs.List.{flat_map}
 use Rattle.overlay.specs.declared.runs.Run.{Run}

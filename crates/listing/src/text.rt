@@ -1,4 +1,4 @@
-ghost use Rattle.std.specs.Prelude.{◌≡◌, ◌+◌, ◌≤◌, length, decimal, min};
+ghost use Rattle.std.specs.Prelude.{◌≡◌, ◌≤◌, length, decimal, min};
 ghost use Rattle.fault.specs.declared.layer.Layer.TheVariants.{Stream};
 ghost use Rattle.stream.specs.Buffers.{written_answer, written_buffer};
 ghost use Rattle.stream.specs.declared.limits.TheConstants.{MOST_RECORDS};
@@ -34,8 +34,8 @@ fn digits(n: u64) -> usize
     }
 }
 
-// Writes a number into the first bytes, and returns how many it took. There is room for it, or for
-// any number.
+// Writes a number into the first bytes, and returns how many it took. A caller that does not know
+// its length gives room for the longest.
 fn put_number(tail: &mut [u8], n: u64) -> usize
     requires { min (length (decimal n)) MOST_DIGITS ≤ length tail.old }
     ensures taken { result ≡ length (decimal n) }
@@ -66,8 +66,8 @@ fn line_length(run: Run<RangeMark>) -> usize
     digits(run.offset) + 1 + digits(run.length) + LINE_END
 }
 
-// Writes a range's line into the first bytes, and returns how many it took. There is room for it,
-// or for any line.
+// Writes a range's line into the first bytes, and returns how many it took. A caller that does not
+// know its length gives room for the longest.
 fn put_line(tail: &mut [u8], run: Run<RangeMark>) -> usize
     requires { min (length (line run)) LONGEST_LINE ≤ length tail.old }
     ensures taken { result ≡ length (line run) }
@@ -94,8 +94,8 @@ pub fn text_length(ranges: &[Run<RangeMark>]) -> usize
     total
 }
 
-// Writes the text into the first bytes of a buffer that has room for it, or for any text of as many
-// ranges, and returns its length.
+// Writes the text into the first bytes of a buffer, and returns its length. A caller that does not
+// know its length gives room for the longest of as many ranges.
 fn put_text(out: &mut [u8], ranges: &[Run<RangeMark>]) -> usize
     requires { min (length (listing ranges.now)) (most_bytes (length ranges.now)) ≤ length out.old }
     ensures taken { result ≡ length (listing ranges.now) }
