@@ -1,4 +1,4 @@
--- What a program makes of the bytes of files, by the definitions of the calls that they use.
+-- What a program makes of the bytes of files, by the definitions of the calls that it uses.
 -- Rests on the definition of apply, on what a stream means, on a flat image's memory and on faults.
 use Rattle.std.specs.Prelude.{◌≡◌, ℕ, ◌-◌, max, if◌then◌else◌, List, ◌++◌, length, take, drop, replicate, Ok, Err, Result, nat_lt}
 use Rattle.fault.specs.Fault.{and_then}
